@@ -1,0 +1,10 @@
+pub mod Refusals
+pub mod Memory
+pub mod Outcome
+pub mod Locks
+pub mod Claims
+pub mod Kind
+pub mod Laws
+pub mod KindOf
+pub mod Calls
+pub mod Text

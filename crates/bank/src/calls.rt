@@ -1,0 +1,48 @@
+// Calls that work over any lock kind.
+ghost use mathlib.Core.Path.{_≡_};
+ghost use Rattle.bank.specs.Calls.{answer-of, state-after, lengths-told};
+ghost use Rattle.bank.specs.Kind.{Reached};
+ghost use Rattle.bank.specs.KindOf.{kind-of};
+ghost use Rattle.bank.specs.Laws.{Lawful};
+ghost use Rattle.bank.specs.Locks.{locks};
+use super::Bank;
+use super::answers::Answer;
+use super::answers::Call;
+use super::memory::Lengths;
+use super::memory::LockMemory;
+use super::memory::Sizes;
+use super::refusals::Fault;
+
+// The lengths that the memory of a bank must have for two sizes.
+pub fn lengths<B: Bank>(sizes: Sizes) -> Result<Lengths, Fault>
+    ensures { λ r. ⌜ r ≡ lengths-told (kind-of B·Bank) (sizes .sessions) (sizes .bins) ⌝ }
+{
+    if !sizes.within_limits() {
+        return Err(Fault::bad_size());
+    }
+    Ok(Lengths {
+        words: sizes.bins,
+        records: sizes.sessions,
+        nodes: B::node_count(sizes.sessions),
+    })
+}
+
+// Carries out one call. Whatever the kind, it keeps all laws of `Lawful`, and its states stay within their reach.
+pub fn carry_out<B: Bank>(
+    bank: &mut B,
+    memory: &mut LockMemory<B::Record>,
+    call: Call,
+    session: usize,
+    bin: usize,
+) -> Result<Answer, Fault>
+    ensures answer { λ r. ⌜ r ≡ answer-of (kind-of B·Bank) call (locks (now (bank .entry)) (now (memory .entry))) session bin ⌝ }
+    ensures after { λ r. ⌜ locks (now (bank .exit)) (now (memory .exit)) ≡ state-after (kind-of B·Bank) call (locks (now (bank .entry)) (now (memory .entry))) session bin ⌝ }
+    ensures reached { λ r. ⌜ (Reached (kind-of B·Bank) (locks (now (bank .entry)) (now (memory .entry))) → Reached (kind-of B·Bank) (locks (now (bank .exit)) (now (memory .exit)))) ⌝ }
+    ensures laws { λ r. ⌜ Lawful (kind-of B·Bank) ⌝ }
+{
+    match call {
+        Call::Ask => Ok(Answer::Asked(bank.ask(memory, session, bin)?)),
+        Call::Push => Ok(Answer::Pushed(bank.push(memory, session, bin)?)),
+        Call::Leave => Ok(Answer::Left(bank.leave(memory, session, bin)?)),
+    }
+}
