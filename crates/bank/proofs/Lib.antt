@@ -1,2 +1,4 @@
 pub mod Claims
 pub mod Admission
+pub mod Askers
+pub mod Steps

@@ -27,7 +27,24 @@ pub fn lengths<B: Bank>(sizes: Sizes) -> Result<Lengths, Fault>
     })
 }
 
-// Carries out one call. Whatever the kind, it keeps all laws of `Lawful`, and its states stay within their reach.
+fn dispatch<B: Bank>(
+    bank: &mut B,
+    memory: &mut LockMemory<B::Record>,
+    call: Call,
+    session: usize,
+    bin: usize,
+) -> Result<Answer, Fault>
+    ensures answer { λ r. ⌜ r ≡ answer-of (kind-of B·Bank) call (locks (now (bank .entry)) (now (memory .entry))) session bin ⌝ }
+    ensures after { λ r. ⌜ locks (now (bank .exit)) (now (memory .exit)) ≡ state-after (kind-of B·Bank) call (locks (now (bank .entry)) (now (memory .entry))) session bin ⌝ }
+{
+    match call {
+        Call::Ask => Ok(Answer::Asked(bank.ask(memory, session, bin)?)),
+        Call::Push => Ok(Answer::Pushed(bank.push(memory, session, bin)?)),
+        Call::Leave => Ok(Answer::Left(bank.leave(memory, session, bin)?)),
+    }
+}
+
+// Carries out one call. Whatever the kind, all laws of `Lawful` hold, and a reached state stays reached.
 pub fn carry_out<B: Bank>(
     bank: &mut B,
     memory: &mut LockMemory<B::Record>,
@@ -40,9 +57,5 @@ pub fn carry_out<B: Bank>(
     ensures reached { λ r. ⌜ (Reached (kind-of B·Bank) (locks (now (bank .entry)) (now (memory .entry))) → Reached (kind-of B·Bank) (locks (now (bank .exit)) (now (memory .exit)))) ⌝ }
     ensures laws { λ r. ⌜ Lawful (kind-of B·Bank) ⌝ }
 {
-    match call {
-        Call::Ask => Ok(Answer::Asked(bank.ask(memory, session, bin)?)),
-        Call::Push => Ok(Answer::Pushed(bank.push(memory, session, bin)?)),
-        Call::Leave => Ok(Answer::Left(bank.leave(memory, session, bin)?)),
-    }
+    dispatch(bank, memory, call, session, bin)
 }

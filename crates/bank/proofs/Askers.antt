@@ -1,0 +1,86 @@
+-- The askers of a bin, for any kind whose sessions have claims: whose they are, and how one joins them or goes.
+use mathlib.Core.Bool.{Bool, true, false, _||_, _&&_, not}
+use mathlib.Core.List.{List}
+use mathlib.Core.Logic.{⊎-elim}
+use mathlib.Core.Path.{_≡_, refl, sym, ap, _∙_}
+use Prim.Native.Nat.{ℕ, _<_}
+use lib.Dec.{eqb}
+use lib.ListN.{length, getD, set}
+use Rattle.std.specs.declared.option.Option.{Option}
+use Rattle.std.specs.declared.option.Option.the-variants.{Some, None}
+use Rattle.std.proofs.shelf.Lists.{getD-past}
+use Rattle.std.proofs.shelf.Tests.{ltb-true, eq-eqb, ne-eqb, and-left, true≢false, cases-lt}
+use Rattle.bank.specs.Claims.{passes, at, at-stage, askers}
+use Rattle.bank.specs.Locks.{Locks, record-of}
+use Rattle.bank.specs.Memory.{in-range}
+use Rattle.bank.specs.declared.memory.Claim.{Claim}
+use Rattle.bank.proofs.Claims.{some-same, some-none, write-cases, asker-claim, claim-asker}
+
+-- one who asks at two bins asks at one
+pub one-bin :
+    {B T : Type 0} (s : Locks B (Option (Claim T))) (b c i : ℕ) → askers s b i ≡ true → askers s c i ≡ true → c ≡ b
+one-bin {B} {T} s b c i p q =
+    let v = asker-claim s b i p in
+    let w = asker-claim s c i q in
+    sym (w .2) ∙ ap (λ (x : Claim T). x .bin) (some-same (w .0) (v .0) (sym (w .1) ∙ v .1)) ∙ v .2
+
+-- an asker has a record, and its bin is one of those
+pub asker-has-record :
+    {B T : Type 0} (s : Locks B (Option (Claim T))) (b i : ℕ) → askers s b i ≡ true → i < length (s .memory .records)
+asker-has-record s b i p =
+    let v = asker-claim s b i p in
+    ⊎-elim
+    (λ l. l)
+    (λ l. some-none (record-of s i) (v .0) (getD-past (s .memory .records) i None l) (v .1))
+    (cases-lt i (length (s .memory .records)))
+
+pub asker-in-range :
+    {B T : Type 0} (s : Locks B (Option (Claim T))) (m b i : ℕ) → in-range m (record-of s i) ≡ true →
+    askers s b i ≡ true → b < m
+asker-in-range s m b i h p =
+    let v = asker-claim s b i p in
+    rw (← v .2) (ltb-true (v .0 .bin) m (sym (ap (in-range m) (v .1)) ∙ h))
+
+-- one who asks at no bin has no claim
+pub no-claim :
+    {B T : Type 0} (s : Locks B (Option (Claim T))) (m i : ℕ) → in-range m (record-of s i) ≡ true →
+    ((c : ℕ) → c < m → askers s c i ≡ false) → record-of s i ≡ None
+no-claim {B} {T} s m i h n = go (record-of s i) refl
+  where
+    go : (r : Option (Claim T)) → record-of s i ≡ r → r ≡ None
+    go None e = refl
+    go (Some c) e =
+        let l = ltb-true (c .bin) m (sym (ap (in-range m) e) ∙ h) in
+        absurd (true≢false (sym (claim-asker s (c .bin) i c e refl) ∙ n (c .bin) l))
+
+-- a claim at bin b is at no other bin
+pub at-no-other :
+    {T : Type 0} (r : Option (Claim T)) (c : Claim T) (b d : ℕ) → r ≡ Some c → c .bin ≡ b → (d ≡ b → ⊥) →
+    passes (at d) r ≡ false
+at-no-other r c b d e q n = ap (passes (at d)) e ∙ ne-eqb (c .bin) d (λ x. n (sym x ∙ q))
+
+-- what is not at bin b has not entered it
+pub not-at :
+    {T : Type 0} (p : T → Bool) (r : Option (Claim T)) (b : ℕ) → passes (at b) r ≡ false →
+    passes (at-stage p b) r ≡ false
+not-at p None b e = refl
+not-at p (Some c) b e = and-left (eqb (c .bin) b) (p (c .stage)) e
+
+-- those that pass once record i is one that does, and once it is none
+pub passes-join :
+    {X : Type 0} (p : X → Bool) (rs : List (Option X)) (i : ℕ) (x : X) (j : ℕ) → i < length rs → p x ≡ true →
+    passes p (getD (set rs i (Some x)) j None) ≡ (eqb j i || passes p (getD rs j None))
+passes-join p rs i x j h e =
+    ⊎-elim
+    (λ q. ap (passes p) (q .1) ∙ e ∙ sym (ap (λ t. t || passes p (getD rs j None)) (eq-eqb j i (q .0))))
+    (λ q. ap (passes p) (q .1) ∙ sym (ap (λ t. t || passes p (getD rs j None)) (ne-eqb j i (q .0))))
+    (write-cases rs i (Some x) None j h)
+
+pub passes-drop :
+    {X : Type 0} (p : X → Bool) (rs : List (Option X)) (i j : ℕ) → i < length rs →
+    passes p (getD (set rs i None) j None) ≡ (not (eqb j i) && passes p (getD rs j None))
+passes-drop p rs i j h =
+    ⊎-elim
+    (λ q. ap (passes p) (q .1) ∙ sym (ap (λ t. not t && passes p (getD rs j None)) (eq-eqb j i (q .0))))
+    (λ q. ap (passes p) (q .1) ∙ sym (ap (λ t. not t && passes p (getD rs j None)) (ne-eqb j i (q .0))))
+    (write-cases rs i None None j h)
