@@ -1,17 +1,16 @@
 -- What the checks of a call show, and when they pass.
-use mathlib.Core.Bool.{Bool, true, false, cond, _&&_}
+use mathlib.Core.Bool.{Bool, true, false, cond}
 use mathlib.Core.Path.{_≡_, refl, sym, ap, _∙_}
 use Prim.Native.Nat.{ℕ, _≤_, _<_}
 use native.Mathlib.Omega.{arith}
-use lib.Dec.{ltb, leb, eqb}
 use lib.ListN.{length, getD}
 use Rattle.std.specs.declared.option.Option.{Option}
-use Rattle.std.specs.declared.option.Option.the-variants.{Some, None}
+use Rattle.std.specs.declared.option.Option.the-variants.{None}
 use Rattle.std.specs.declared.result.Result.{Result}
 use Rattle.std.specs.declared.result.Result.the-variants.{Ok, Err}
 use Rattle.std.proofs.shelf.Tests.{lt-ltb, le-ltb}
 use Rattle.std.proofs.shelf.Ways.{tells}
-use Rattle.bank.specs.Memory.{Lent, within-limits, has-lengths, admits, admits-session, admits-bin, in-range, checked-record, own-record}
+use Rattle.bank.specs.Memory.{Lent, has-lengths, admits, admits-session, admits-bin, in-range, checked-record, own-record}
 use Rattle.bank.specs.Refusals.{bad-size, no-session, no-bin, bad-record}
 use Rattle.bank.specs.declared.memory.Claim.{Claim}
 use Rattle.bank.specs.declared.refusals.Fault.{Fault}
@@ -48,18 +47,6 @@ module _ {R : Type 0} (told n m : ℕ) (mem : Lent R) where
   pub admitted : (i b : ℕ) (u : Unit {0}) → admits told n m mem i b ≡ Ok u → Admitted i b
   admitted i b u e = record { fit = grind (arith, tells); session = grind (arith, tells); bin = grind (arith, tells) }
 
-  pub admits-unfit : (i b : ℕ) → has-lengths told n m mem ≡ false → admits told n m mem i b ≡ Err bad-size
-  admits-unfit i b e = rw e
-
-  pub admits-no-session : (i b : ℕ) → has-lengths told n m mem ≡ true → n ≤ i → admits told n m mem i b ≡ Err (no-session i)
-  admits-no-session i b e h = rw (e, le-ltb i n h)
-
-  pub admits-no-bin : (i b : ℕ) → has-lengths told n m mem ≡ true → i < n → m ≤ b → admits told n m mem i b ≡ Err (no-bin b)
-  admits-no-bin i b e h k = rw (e, lt-ltb i n h, le-ltb b m k)
-
-  pub admits-both : (i b : ℕ) → has-lengths told n m mem ≡ true → i < n → b < m → admits told n m mem i b ≡ Ok tt
-  admits-both i b e h k = rw (e, lt-ltb i n h, lt-ltb b m k)
-
   -- a question about a session
   pub session-unfit : (i : ℕ) → has-lengths told n m mem ≡ false → admits-session told n m mem i ≡ Err bad-size
   session-unfit i e = rw e
@@ -91,16 +78,32 @@ module _ {T : Type 0} (told n m : ℕ) (mem : Lent (Option (Claim T))) where
   pub owned : (i b : ℕ) (r : Option (Claim T)) → own-record told n m mem i b ≡ Ok r → Own i b r
   owned i b r e = go (admits told n m mem i b) refl e
     where
-      inner : (u : Unit {0}) → admits told n m mem i b ≡ Ok u → (t : Bool) → in-range m (getD (mem .records) i None) ≡ t → cond t (Ok (getD (mem .records) i None)) (Err (bad-record i)) ≡ Ok r → Own i b r
-      inner u p true q f = let same : getD (mem .records) i None ≡ r = cc in record { admitted = admitted told n m mem i b u p; read = same; ranged = sym (ap (in-range m) same) ∙ q }
+      inner :
+          (u : Unit {0}) → admits told n m mem i b ≡ Ok u → (t : Bool) → in-range m (getD (mem .records) i None) ≡ t →
+          cond t (Ok (getD (mem .records) i None)) (Err (bad-record i)) ≡ Ok r → Own i b r
+      inner u p true q f =
+          let same : getD (mem .records) i None ≡ r = cc in
+          record { admitted = admitted told n m mem i b u p; read = same; ranged = sym (ap (in-range m) same) ∙ q }
       inner u p false q f = let z : _≡_ {A = ℕ} 0 1 = cc in absurd (omega arith)
 
-      go : (a : Result (Unit {0}) Fault) → admits told n m mem i b ≡ a → checked-record a m i (getD (mem .records) i None) ≡ Ok r → Own i b r
+      go :
+          (a : Result (Unit {0}) Fault) → admits told n m mem i b ≡ a →
+          checked-record a m i (getD (mem .records) i None) ≡ Ok r → Own i b r
       go (Ok u) p f = inner u p (in-range m (getD (mem .records) i None)) refl f
       go (Err x) p f = let z : _≡_ {A = ℕ} 0 1 = cc in absurd (omega arith)
 
-  pub own-refused : (i b : ℕ) (f : Fault) → admits told n m mem i b ≡ Err f → own-record told n m mem i b ≡ Err f
-  own-refused i b f e = rw e
+  pub own-unfit : (i b : ℕ) → has-lengths told n m mem ≡ false → own-record told n m mem i b ≡ Err bad-size
+  own-unfit i b e = rw e
 
-  pub own-there : (i b : ℕ) → has-lengths told n m mem ≡ true → i < n → b < m → in-range m (getD (mem .records) i None) ≡ true → own-record told n m mem i b ≡ Ok (getD (mem .records) i None)
-  own-there i b e h k q = rw (admits-both told n m mem i b e h k, q)
+  pub own-no-session :
+      (i b : ℕ) → has-lengths told n m mem ≡ true → n ≤ i → own-record told n m mem i b ≡ Err (no-session i)
+  own-no-session i b e h = rw (e, le-ltb i n h)
+
+  pub own-no-bin :
+      (i b : ℕ) → has-lengths told n m mem ≡ true → i < n → m ≤ b → own-record told n m mem i b ≡ Err (no-bin b)
+  own-no-bin i b e h k = rw (e, lt-ltb i n h, le-ltb b m k)
+
+  pub own-there :
+      (i b : ℕ) → has-lengths told n m mem ≡ true → i < n → b < m → in-range m (getD (mem .records) i None) ≡ true →
+      own-record told n m mem i b ≡ Ok (getD (mem .records) i None)
+  own-there i b e h k q = rw (e, lt-ltb i n h, lt-ltb b m k, q)

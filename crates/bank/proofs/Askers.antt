@@ -1,20 +1,22 @@
--- The askers of a bin, for any kind whose sessions have claims: whose they are, and how one joins them or goes.
+-- The askers of a bin, for any kind whose sessions have claims: whose they are, when they stay, and how one joins or goes.
 use mathlib.Core.Bool.{Bool, true, false, _||_, _&&_, not}
 use mathlib.Core.List.{List}
 use mathlib.Core.Logic.{⊎-elim}
 use mathlib.Core.Path.{_≡_, refl, sym, ap, _∙_}
 use Prim.Native.Nat.{ℕ, _<_}
+use native.Mathlib.Omega.{arith}
 use lib.Dec.{eqb}
 use lib.ListN.{length, getD, set}
 use Rattle.std.specs.declared.option.Option.{Option}
 use Rattle.std.specs.declared.option.Option.the-variants.{Some, None}
 use Rattle.std.proofs.shelf.Lists.{getD-past}
 use Rattle.std.proofs.shelf.Tests.{ltb-true, eq-eqb, ne-eqb, and-left, true≢false, cases-lt}
-use Rattle.bank.specs.Claims.{passes, at, at-stage, askers}
+use Rattle.bank.specs.Claims.{passes, at, at-stage, askers, inside}
 use Rattle.bank.specs.Locks.{Locks, record-of}
-use Rattle.bank.specs.Memory.{in-range}
+use Rattle.bank.specs.Memory.{has-lengths, in-range}
 use Rattle.bank.specs.declared.memory.Claim.{Claim}
-use Rattle.bank.proofs.Claims.{some-same, some-none, write-cases, asker-claim, claim-asker}
+use Rattle.bank.proofs.Admission.{sized}
+use Rattle.bank.proofs.Claims.{some-same, some-none, passes-set, found-set, write-cases, asker-claim, claim-asker}
 
 -- one who asks at two bins asks at one
 pub one-bin :
@@ -24,13 +26,15 @@ one-bin {B} {T} s b c i p q =
     let w = asker-claim s c i q in
     sym (w .2) ∙ ap (λ (x : Claim T). x .bin) (some-same (w .0) (v .0) (sym (w .1) ∙ v .1)) ∙ v .2
 
--- an asker has a record, and its bin is one of those
-pub asker-has-record :
-    {B T : Type 0} (s : Locks B (Option (Claim T))) (b i : ℕ) → askers s b i ≡ true → i < length (s .memory .records)
-asker-has-record s b i p =
+-- an asker's session and bin are there
+pub asker-session :
+    {B T : Type 0} (s : Locks B (Option (Claim T))) (told n m b i : ℕ) → has-lengths told n m (s .memory) ≡ true →
+    askers s b i ≡ true → i < n
+asker-session s told n m b i h p =
     let v = asker-claim s b i p in
+    let z = sized told n m (s .memory) h in
     ⊎-elim
-    (λ l. l)
+    (λ l. omega arith)
     (λ l. some-none (record-of s i) (v .0) (getD-past (s .memory .records) i None l) (v .1))
     (cases-lt i (length (s .memory .records)))
 
@@ -65,6 +69,27 @@ pub not-at :
     passes (at-stage p b) r ≡ false
 not-at p None b e = refl
 not-at p (Some c) b e = and-left (eqb (c .bin) b) (p (c .stage)) e
+
+-- A CHANGE: other words, and another record of session i.
+abbrev pub changed : {B R : Type 0} → Locks B R → List ℕ → ℕ → R → Locks B R
+changed s ws i r =
+    record {
+      bank = s .bank;
+      memory = record { words = ws; records = set (s .memory .records) i r; nodes = s .memory .nodes };
+    }
+
+-- a bin at which session i asks neither before nor after keeps its askers and the one inside
+module _
+    {B T : Type 0} (s : Locks B (Option (Claim T))) (ws : List ℕ) (i : ℕ) (r : Option (Claim T)) (c : ℕ)
+    (p : passes (at c) r ≡ false) (q : askers s c i ≡ false) where
+  pub same-stage : (f : T → Bool) → passes (at-stage f c) r ≡ passes (at-stage f c) (record-of s i)
+  same-stage f = not-at f r c p ∙ sym (not-at f (record-of s i) c q)
+
+  pub same-askers : (j : ℕ) → askers (changed s ws i r) c j ≡ askers s c j
+  same-askers j = passes-set (at c) (s .memory .records) i r j (p ∙ sym q)
+
+  pub same-inside : (f : T → Bool) → inside f (changed s ws i r) c ≡ inside f s c
+  same-inside f = found-set (at-stage f c) 0 (s .memory .records) i r (same-stage f)
 
 -- those that pass once record i is one that does, and once it is none
 pub passes-join :

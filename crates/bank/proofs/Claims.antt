@@ -10,7 +10,7 @@ use lib.ListN.{length, getD, set, replicate}
 use Rattle.std.specs.declared.option.Option.{Option}
 use Rattle.std.specs.declared.option.Option.the-variants.{Some, None}
 use Rattle.std.proofs.shelf.Lists.{getD-set-same, getD-set-other}
-use Rattle.std.proofs.shelf.Tests.{true≢false, eqb-true, eq-eqb, and-parts, and-from, cases-eq, cases-bool}
+use Rattle.std.proofs.shelf.Tests.{true≢false, eqb-true, eq-eqb, and-parts, and-from, cases-eq}
 use lib.Dec.{eqb}
 use Rattle.bank.specs.Claims.{passes, found, at, at-stage, askers, inside}
 use Rattle.bank.specs.Locks.{Locks, record-of}
@@ -22,18 +22,22 @@ some-same a c e = cc
 pub some-none : {X : Type 0} {A : Type 0} (r : Option X) (x : X) → r ≡ None → r ≡ Some x → A
 some-none r x e f = absurd (grind arith)
 
-pub passed : {X : Type 0} (p : X → Bool) (r : Option X) → passes p r ≡ true → (x : X) × (r ≡ Some x) × (p x ≡ true)
-passed p None e = absurd (true≢false (sym e))
-passed p (Some x) e = (x, refl, e)
+pub untrue : (t : Bool) → (t ≡ true → ⊥) → t ≡ false
+untrue true n = absurd (n refl)
+untrue false n = refl
 
-pub passes-set : {X : Type 0} (p : X → Bool) (rs : List (Option X)) (i : ℕ) (r : Option X) (j : ℕ) → passes p r ≡ passes p (getD rs i None) → passes p (getD (set rs i r) j None) ≡ passes p (getD rs j None)
+pub passes-set :
+    {X : Type 0} (p : X → Bool) (rs : List (Option X)) (i : ℕ) (r : Option X) (j : ℕ) →
+    passes p r ≡ passes p (getD rs i None) → passes p (getD (set rs i r) j None) ≡ passes p (getD rs j None)
 passes-set p [] i r j e = refl
 passes-set p (x ∷ rs) zero r zero e = e
 passes-set p (x ∷ rs) zero r (suc j) e = refl
 passes-set p (x ∷ rs) (suc i) r zero e = refl
 passes-set p (x ∷ rs) (suc i) r (suc j) e = passes-set p rs i r j e
 
-pub found-set : {X : Type 0} (p : X → Bool) (k : ℕ) (rs : List (Option X)) (i : ℕ) (r : Option X) → passes p r ≡ passes p (getD rs i None) → found p k (set rs i r) ≡ found p k rs
+pub found-set :
+    {X : Type 0} (p : X → Bool) (k : ℕ) (rs : List (Option X)) (i : ℕ) (r : Option X) →
+    passes p r ≡ passes p (getD rs i None) → found p k (set rs i r) ≡ found p k rs
 found-set p k [] i r e = refl
 found-set p k (x ∷ rs) zero r e = ap (λ t. cond t (Some k) (found p (suc k) rs)) e
 found-set p k (x ∷ rs) (suc i) r e = ap (λ o. cond (passes p x) (Some k) o) (found-set p (suc k) rs i r e)
@@ -47,73 +51,131 @@ getD-replicate-none zero i = refl
 getD-replicate-none (suc n) zero = refl
 getD-replicate-none (suc n) (suc i) = getD-replicate-none n i
 
-found-no : {X : Type 0} (p : X → Bool) (k : ℕ) (rs : List (Option X)) → ((j : ℕ) → passes p (getD rs j None) ≡ false) → found p k rs ≡ None
-found-no p k [] h = refl
-found-no p k (x ∷ rs) h = ap (λ t. cond t (Some k) (found p (suc k) rs)) (h zero) ∙ found-no p (suc k) rs (λ j. h (suc j))
-
 -- none passes
-pub found-none : {X : Type 0} (p : X → Bool) (rs : List (Option X)) → ((j : ℕ) (x : X) → getD rs j None ≡ Some x → p x ≡ true → ⊥) → found p 0 rs ≡ None
-found-none p rs h = found-no p 0 rs (λ j. ⊎-elim (λ q. let w = passed p (getD rs j None) q in absurd (h j (w .0) (w .1) (w .2))) (λ q. q) (cases-bool (passes p (getD rs j None))))
+pub found-none :
+    {X : Type 0} (p : X → Bool) (k : ℕ) (rs : List (Option X)) → ((j : ℕ) → passes p (getD rs j None) ≡ false) →
+    found p k rs ≡ None
+found-none p k [] h = refl
+found-none p k (x ∷ rs) h =
+    ap (λ t. cond t (Some k) (found p (suc k) rs)) (h zero) ∙ found-none p (suc k) rs (λ j. h (suc j))
 
-found-at : {X : Type 0} (p : X → Bool) (k : ℕ) (rs : List (Option X)) (i : ℕ) → passes p (getD rs i None) ≡ true → ((j : ℕ) → passes p (getD rs j None) ≡ true → j ≡ i) → found p k rs ≡ Some (k + i)
+found-at :
+    {X : Type 0} (p : X → Bool) (k : ℕ) (rs : List (Option X)) (i : ℕ) → passes p (getD rs i None) ≡ true →
+    ((j : ℕ) → passes p (getD rs j None) ≡ true → j ≡ i) → found p k rs ≡ Some (k + i)
 found-at p k [] i e h = absurd (true≢false (sym e))
 found-at p k (x ∷ rs) zero e h = ap (λ t. cond t (Some k) (found p (suc k) rs)) e ∙ ap Some (omega arith)
 found-at p k (x ∷ rs) (suc i) e h = go (passes p x) refl (found-at p (suc k) rs i e (λ j w. omega (arith, h (suc j) w)))
   where
-    go : (t : Bool) → passes p x ≡ t → found p (suc k) rs ≡ Some (suc k + i) → cond t (Some k) (found p (suc k) rs) ≡ Some (k + suc i)
+    go :
+        (t : Bool) → passes p x ≡ t → found p (suc k) rs ≡ Some (suc k + i) →
+        cond t (Some k) (found p (suc k) rs) ≡ Some (k + suc i)
     go true q f = absurd (omega (arith, h zero q))
     go false q f = f ∙ ap Some (omega arith)
 
 -- one passes, and no other does
-pub found-one : {X : Type 0} (p : X → Bool) (rs : List (Option X)) (i : ℕ) (x : X) → getD rs i None ≡ Some x → p x ≡ true → ((j : ℕ) (y : X) → getD rs j None ≡ Some y → p y ≡ true → j ≡ i) → found p 0 rs ≡ Some i
-found-one p rs i x e q h = found-at p 0 rs i (ap (passes p) e ∙ q) (λ j r. let w = passed p (getD rs j None) r in h j (w .0) (w .1) (w .2)) ∙ ap Some (zero-add i)
+pub found-one :
+    {X : Type 0} (p : X → Bool) (rs : List (Option X)) (i : ℕ) → passes p (getD rs i None) ≡ true →
+    ((j : ℕ) → passes p (getD rs j None) ≡ true → j ≡ i) → found p 0 rs ≡ Some i
+found-one p rs i e h = found-at p 0 rs i e h ∙ ap Some (zero-add i)
 
-found-from : {X : Type 0} (p : X → Bool) (k : ℕ) (rs : List (Option X)) (i : ℕ) → found p k rs ≡ Some i → (j : ℕ) × (i ≡ k + j) × (passes p (getD rs j None) ≡ true)
+found-from :
+    {X : Type 0} (p : X → Bool) (k : ℕ) (rs : List (Option X)) (i : ℕ) → found p k rs ≡ Some i →
+    (j : ℕ) × (i ≡ k + j) × (passes p (getD rs j None) ≡ true)
 found-from p k [] i e = absurd (grind arith)
 found-from p k (x ∷ rs) i e = go (passes p x) refl e (found-from p (suc k) rs i)
   where
-    go : (t : Bool) → passes p x ≡ t → cond t (Some k) (found p (suc k) rs) ≡ Some i → (found p (suc k) rs ≡ Some i → (j : ℕ) × (i ≡ suc k + j) × (passes p (getD rs j None) ≡ true)) → (j : ℕ) × (i ≡ k + j) × (passes p (getD (x ∷ rs) j None) ≡ true)
+    go :
+        (t : Bool) → passes p x ≡ t → cond t (Some k) (found p (suc k) rs) ≡ Some i →
+        (found p (suc k) rs ≡ Some i → (j : ℕ) × (i ≡ suc k + j) × (passes p (getD rs j None) ≡ true)) →
+        (j : ℕ) × (i ≡ k + j) × (passes p (getD (x ∷ rs) j None) ≡ true)
     go true q e f = (zero, grind arith, q)
     go false q e f = let w = f e in (suc (w .0), omega (arith, w .1), w .2)
 
-pub found-passes : {X : Type 0} (p : X → Bool) (rs : List (Option X)) (i : ℕ) → found p 0 rs ≡ Some i → (x : X) × (getD rs i None ≡ Some x) × (p x ≡ true)
+found-passes :
+    {X : Type 0} (p : X → Bool) (rs : List (Option X)) (i : ℕ) → found p 0 rs ≡ Some i →
+    passes p (getD rs i None) ≡ true
 found-passes p rs i e =
     let w = found-from p 0 rs i e in
-    let v = passed p (getD rs (w .0) None) (w .2) in
-    (v .0, ap (λ j. getD rs j None) (w .1 ∙ zero-add (w .0)) ∙ v .1, v .2)
+    ap (λ j. passes p (getD rs j None)) (w .1 ∙ zero-add (w .0)) ∙ w .2
 
 -- an element after a write
-pub write-cases : {X : Type 0} (xs : List X) (i : ℕ) (x d : X) (j : ℕ) → i < length xs → ((j ≡ i) × (getD (set xs i x) j d ≡ x)) ⊎ ((j ≡ i → ⊥) × (getD (set xs i x) j d ≡ getD xs j d))
+pub write-cases :
+    {X : Type 0} (xs : List X) (i : ℕ) (x d : X) (j : ℕ) → i < length xs →
+    ((j ≡ i) × (getD (set xs i x) j d ≡ x)) ⊎ ((j ≡ i → ⊥) × (getD (set xs i x) j d ≡ getD xs j d))
 write-cases xs i x d j h =
-    ⊎-elim (λ e. inl (e, ap (λ k. getD (set xs i x) k d) e ∙ getD-set-same xs i x d h)) (λ n. inr (n, getD-set-other xs i j x d n)) (cases-eq j i)
+    ⊎-elim
+    (λ e. inl (e, ap (λ k. getD (set xs i x) k d) e ∙ getD-set-same xs i x d h))
+    (λ n. inr (n, getD-set-other xs i j x d n))
+    (cases-eq j i)
+
+-- a record that there is after one was written: it is the new one, or was there before
+pub claim-cases :
+    {X : Type 0} (rs : List (Option X)) (i : ℕ) (x : X) (j : ℕ) (y : X) → i < length rs →
+    getD (set rs i (Some x)) j None ≡ Some y → ((j ≡ i) × (x ≡ y)) ⊎ ((j ≡ i → ⊥) × (getD rs j None ≡ Some y))
+claim-cases rs i x j y h f =
+    ⊎-elim
+    (λ p. inl (p .0, some-same x y (sym (p .1) ∙ f)))
+    (λ p. inr (p .0, sym (p .1) ∙ f))
+    (write-cases rs i (Some x) None j h)
+
+-- a claim at bin b whose stage passes
+pub at-stage-from :
+    {T : Type 0} (p : T → Bool) (b : ℕ) (c : Claim T) → c .bin ≡ b → p (c .stage) ≡ true → at-stage p b c ≡ true
+at-stage-from p b c q r = and-from (eqb (c .bin) b) (p (c .stage)) (eq-eqb (c .bin) b q) r
+
+pub at-stage-parts :
+    {T : Type 0} (p : T → Bool) (b : ℕ) (c : Claim T) → at-stage p b c ≡ true → (c .bin ≡ b) × (p (c .stage) ≡ true)
+at-stage-parts p b c e = let k = and-parts (eqb (c .bin) b) (p (c .stage)) e in (eqb-true (c .bin) b (k .0), k .1)
+
+pub stage-claim :
+    {T : Type 0} (p : T → Bool) (b : ℕ) (r : Option (Claim T)) → passes (at-stage p b) r ≡ true →
+    (c : Claim T) × (r ≡ Some c) × (c .bin ≡ b) × (p (c .stage) ≡ true)
+stage-claim p b None e = absurd (true≢false (sym e))
+stage-claim p b (Some c) e = let k = at-stage-parts p b c e in (c, refl, k .0, k .1)
 
 -- an asker has a claim at the bin
-pub asker-claim : {B T : Type 0} (s : Locks B (Option (Claim T))) (b i : ℕ) → askers s b i ≡ true → (c : Claim T) × (record-of s i ≡ Some c) × (c .bin ≡ b)
-asker-claim s b i e = let w = passed (at b) (record-of s i) e in (w .0, w .1, eqb-true (w .0 .bin) b (w .2))
+pub asker-claim :
+    {B T : Type 0} (s : Locks B (Option (Claim T))) (b i : ℕ) → askers s b i ≡ true →
+    (c : Claim T) × (record-of s i ≡ Some c) × (c .bin ≡ b)
+asker-claim {B} {T} s b i e = go (record-of s i) e
+  where
+    go : (r : Option (Claim T)) → passes (at b) r ≡ true → (c : Claim T) × (r ≡ Some c) × (c .bin ≡ b)
+    go None e = absurd (true≢false (sym e))
+    go (Some c) e = (c, refl, eqb-true (c .bin) b e)
 
-pub claim-asker : {B T : Type 0} (s : Locks B (Option (Claim T))) (b i : ℕ) (c : Claim T) → record-of s i ≡ Some c → c .bin ≡ b → askers s b i ≡ true
+pub claim-asker :
+    {B T : Type 0} (s : Locks B (Option (Claim T))) (b i : ℕ) (c : Claim T) → record-of s i ≡ Some c → c .bin ≡ b →
+    askers s b i ≡ true
 claim-asker s b i c e q = ap (passes (at b)) e ∙ eq-eqb (c .bin) b q
 
 -- the one inside has a claim at the bin, and has entered
-pub inside-claim : {B T : Type 0} (entered : T → Bool) (s : Locks B (Option (Claim T))) (b i : ℕ) → inside entered s b ≡ Some i → (c : Claim T) × (record-of s i ≡ Some c) × (c .bin ≡ b) × (entered (c .stage) ≡ true)
+pub inside-claim :
+    {B T : Type 0} (entered : T → Bool) (s : Locks B (Option (Claim T))) (b i : ℕ) → inside entered s b ≡ Some i →
+    (c : Claim T) × (record-of s i ≡ Some c) × (c .bin ≡ b) × (entered (c .stage) ≡ true)
 inside-claim entered s b i e =
-    let v = found-passes (at-stage entered b) (s .memory .records) i e in
-    let k = and-parts (eqb (v .0 .bin) b) (entered (v .0 .stage)) (v .2) in
-    (v .0, v .1, eqb-true (v .0 .bin) b (k .0), k .1)
+    stage-claim entered b (record-of s i) (found-passes (at-stage entered b) (s .memory .records) i e)
 
 -- nobody is inside where no claim at the bin has entered
-pub nobody-inside : {B T : Type 0} (entered : T → Bool) (s : Locks B (Option (Claim T))) (b : ℕ) → ((j : ℕ) (c : Claim T) → record-of s j ≡ Some c → c .bin ≡ b → entered (c .stage) ≡ true → ⊥) → inside entered s b ≡ None
+pub nobody-inside :
+    {B T : Type 0} (entered : T → Bool) (s : Locks B (Option (Claim T))) (b : ℕ) →
+    ((j : ℕ) (c : Claim T) → record-of s j ≡ Some c → c .bin ≡ b → entered (c .stage) ≡ true → ⊥) →
+    inside entered s b ≡ None
 nobody-inside entered s b h =
-    found-none (at-stage entered b) (s .memory .records) (λ j c e p. let k = and-parts (eqb (c .bin) b) (entered (c .stage)) p in h j c e (eqb-true (c .bin) b (k .0)) (k .1))
+    found-none (at-stage entered b) 0 (s .memory .records) (λ j. untrue (passes (at-stage entered b) (record-of s j)) (none j))
+  where
+    none : (j : ℕ) → passes (at-stage entered b) (record-of s j) ≡ true → ⊥
+    none j p = let w = stage-claim entered b (record-of s j) p in h j (w .0) (w .1) (w .2) (w .3)
 
 -- a claim that has entered is inside where no other at its bin has
-pub one-inside : {B T : Type 0} (entered : T → Bool) (s : Locks B (Option (Claim T))) (b i : ℕ) (c : Claim T) → record-of s i ≡ Some c → c .bin ≡ b → entered (c .stage) ≡ true → ((j : ℕ) (d : Claim T) → record-of s j ≡ Some d → d .bin ≡ b → entered (d .stage) ≡ true → j ≡ i) → inside entered s b ≡ Some i
+pub one-inside :
+    {B T : Type 0} (entered : T → Bool) (s : Locks B (Option (Claim T))) (b i : ℕ) (c : Claim T) →
+    record-of s i ≡ Some c → c .bin ≡ b → entered (c .stage) ≡ true →
+    ((j : ℕ) (d : Claim T) → record-of s j ≡ Some d → d .bin ≡ b → entered (d .stage) ≡ true → j ≡ i) →
+    inside entered s b ≡ Some i
 one-inside entered s b i c e q r h =
     found-one
     (at-stage entered b)
     (s .memory .records)
     i
-    c
-    e
-    (and-from (eqb (c .bin) b) (entered (c .stage)) (eq-eqb (c .bin) b q) r)
-    (λ j d f p. let k = and-parts (eqb (d .bin) b) (entered (d .stage)) p in h j d f (eqb-true (d .bin) b (k .0)) (k .1))
+    (ap (passes (at-stage entered b)) e ∙ at-stage-from entered b c q r)
+    (λ j p. let w = stage-claim entered b (record-of s j) p in h j (w .0) (w .1) (w .2) (w .3))

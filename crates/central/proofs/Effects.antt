@@ -9,8 +9,7 @@ use lib.ListN.{getD, set}
 use Rattle.std.specs.Results.{isOk}
 use Rattle.std.specs.declared.option.Option.{Option}
 use Rattle.std.specs.declared.option.Option.the-variants.{Some, None}
-use Rattle.std.specs.declared.result.Result.{Result}
-use Rattle.std.specs.declared.result.Result.the-variants.{Ok, Err}
+use Rattle.std.specs.declared.result.Result.the-variants.{Ok}
 use Rattle.std.proofs.shelf.Lists.{getD-set-same, getD-set-other}
 use Rattle.std.proofs.shelf.Tests.{eq-eqb, ne-eqb, and-right, false≢true}
 use Rattle.bank.specs.Claims.{passes, claim, at, at-stage, askers}
@@ -23,22 +22,19 @@ use Rattle.bank.specs.declared.answers.LeaveAnswer.{LeaveAnswer}
 use Rattle.bank.specs.declared.answers.PushAnswer.{PushAnswer}
 use Rattle.bank.specs.declared.answers.PushAnswer.the-variants.{Waits, Moved, In, Out}
 use Rattle.bank.specs.declared.memory.Claim.{Claim}
-use Rattle.bank.specs.declared.refusals.Fault.{Fault}
+use Rattle.bank.proofs.Askers.{at-no-other, changed, same-askers, same-inside, passes-join, passes-drop}
 use Rattle.bank.proofs.Claims.{passes-set, found-set, claim-asker}
+use Rattle.bank.proofs.Distinct.{push-number, not-yet-in, out-moved}
+use Rattle.bank.proofs.Itself.{same-self}
 use Rattle.central.specs.declared.Stage.{Stage}
 use Rattle.central.specs.declared.Stage.the-variants.{Inside}
 use Rattle.central.specs.Calls.{staged, after-look, asks, pushes, leaves}
 use Rattle.central.specs.State.{State, entered}
 use Rattle.central.specs.Word.{lock-bit, unlocked, locked, released, age-of}
-use Rattle.bank.proofs.Askers.{at-no-other, not-at, passes-join, passes-drop}
-use Rattle.central.proofs.Invariant.{Invariant, holds, changed, record-there, claim-holds, no-holder, one-holder, outside, own-word-is, entry-invariant, exit-invariant}
+use Rattle.central.proofs.Invariant.{Invariant, holds, record-there, claim-holds, no-holder, one-holder, outside, own-word-is, entry-invariant, exit-invariant}
 use Rattle.central.proofs.Meanings.{age-unlocked, age-locked, holds-inside, none-inside}
 use Rattle.central.proofs.Reachable.{central, look-outside}
 use Rattle.central.proofs.Views.{Ask-view, ask-view, ask-refused, ask-joins, Push-view, push-view, push-refused, push-waits, push-moves, push-enters, Leave-view, leave-view, leave-refused, leave-exits}
-
-pub same-state : (s : State) (c : ℕ) → Same central s s c
-same-state s c =
-    record { askers = λ j. refl; leaving = λ j. refl; inside = refl; age = refl; calm = refl; mark = refl; line = refl }
 
 -- a bin whose word stays, and at which session i asks neither before nor after
 same-bin :
@@ -46,11 +42,9 @@ same-bin :
     passes (at c) r ≡ false → passes (at c) (record-of s i) ≡ false → Same central s (changed s ws i r) c
 same-bin s ws i r c w p q =
     record {
-      askers = λ j. passes-set (at c) (s .memory .records) i r j (p ∙ sym q);
+      askers = same-askers s ws i r c p q;
       leaving = λ j. refl;
-      inside =
-          let e = not-at entered r c p ∙ sym (not-at entered (record-of s i) c q) in
-          found-set (at-stage entered c) 0 (s .memory .records) i r e;
+      inside = same-inside s ws i r c p q entered;
       age = ap age-of w;
       calm = ap unlocked w;
       mark = w;
@@ -83,7 +77,7 @@ ask-effect s i b I = go (asks s i b) (ask-view s i b) refl
         let l = record-there s i I (q .admitted .session) in
         record {
           joins = λ j. passes-join (at b) (s .memory .records) i (claim b g) j l (eq-eqb b b refl);
-          in-enters = λ a. let z : _≡_ {A = ℕ} 0 1 = cc in absurd (omega arith);
+          in-enters = λ a. not-yet-in (cc);
           not-yet-enters-nobody =
               λ a. no-entry s i b g (look-outside (word-at s b)) (ap (passes (at-stage entered b)) (q .read));
           other-bins-keep-all =
@@ -93,14 +87,6 @@ ask-effect s i b I = go (asks s i b) (ask-view s i b) refl
         }
 
 -- PUSH
--- the answers, told apart by numbers
-abbrev number : Result PushAnswer Fault → ℕ
-number (Err f) = 0
-number (Ok Waits) = 1
-number (Ok Moved) = 2
-number (Ok In) = 3
-number (Ok Out) = 4
-
 -- a word that is locked has the next age
 next-age : (w : ℕ) → w < lock-bit → age-of (locked w) ≡ (age-of w + 1) % lock-bit
 next-age w l =
@@ -111,27 +97,27 @@ next-age w l =
 module _ (s : State) (i b : ℕ) (I : Invariant s) where
   -- the answer out is never given
   push-never-out : (o : Outcome PushAnswer State) → Push-view s i b o → o .answer ≡ Ok Out → ⊥
-  push-never-out o (push-refused f) a = omega (arith, ap number a)
-  push-never-out o push-waits a = omega (arith, ap number a)
-  push-never-out o (push-moves c g q eb eo es ei) a = omega (arith, ap number a)
-  push-never-out o (push-enters c q eb eo l) a = omega (arith, ap number a)
+  push-never-out o (push-refused f) a = omega (arith, ap push-number a)
+  push-never-out o push-waits a = omega (arith, ap push-number a)
+  push-never-out o (push-moves c g q eb eo es ei) a = omega (arith, ap push-number a)
+  push-never-out o (push-enters c q eb eo l) a = omega (arith, ap push-number a)
 
   push-waiting : (o : Outcome PushAnswer State) → Push-view s i b o → o .answer ≡ Ok Waits → o .after ≡ s
   push-waiting o (push-refused f) a = refl
   push-waiting o push-waits a = refl
-  push-waiting o (push-moves c g q eb eo es ei) a = absurd (omega (arith, ap number a))
-  push-waiting o (push-enters c q eb eo l) a = absurd (omega (arith, ap number a))
+  push-waiting o (push-moves c g q eb eo es ei) a = absurd (omega (arith, ap push-number a))
+  push-waiting o (push-enters c q eb eo l) a = absurd (omega (arith, ap push-number a))
 
   push-moving : (o : Outcome PushAnswer State) → Push-view s i b o → o .answer ≡ Ok Moved → No-entry central s (o .after) b
-  push-moving o (push-refused f) a = absurd (omega (arith, ap number a))
-  push-moving o push-waits a = absurd (omega (arith, ap number a))
+  push-moving o (push-refused f) a = absurd (omega (arith, ap push-number a))
+  push-moving o push-waits a = absurd (omega (arith, ap push-number a))
   push-moving o (push-moves c g q eb eo es ei) a = no-entry s i b g ei (outside s i c (q .read) eo b)
-  push-moving o (push-enters c q eb eo l) a = absurd (omega (arith, ap number a))
+  push-moving o (push-enters c q eb eo l) a = absurd (omega (arith, ap push-number a))
 
   push-entering : (o : Outcome PushAnswer State) → Push-view s i b o → o .answer ≡ Ok In → Entry central s (o .after) i b
-  push-entering o (push-refused f) a = absurd (omega (arith, ap number a))
-  push-entering o push-waits a = absurd (omega (arith, ap number a))
-  push-entering o (push-moves c g q eb eo es ei) a = absurd (omega (arith, ap number a))
+  push-entering o (push-refused f) a = absurd (omega (arith, ap push-number a))
+  push-entering o push-waits a = absurd (omega (arith, ap push-number a))
+  push-entering o (push-moves c g q eb eo es ei) a = absurd (omega (arith, ap push-number a))
   push-entering o (push-enters c q eb eo l) a =
       let hi = q .admitted .session in
       let hb = q .admitted .bin in
@@ -161,8 +147,8 @@ module _ (s : State) (i b : ℕ) (I : Invariant s) where
       passes-set (at b) (s .memory .records) i (Some (claim b Inside)) j e
 
   push-elsewhere : (o : Outcome PushAnswer State) → Push-view s i b o → (c : ℕ) → (c ≡ b → ⊥) → Same central s (o .after) c
-  push-elsewhere o (push-refused f) d n = same-state s d
-  push-elsewhere o push-waits d n = same-state s d
+  push-elsewhere o (push-refused f) d n = same-self central s d
+  push-elsewhere o push-waits d n = same-self central s d
   push-elsewhere o (push-moves c g q eb eo es ei) d n =
       let old = at-no-other (record-of s i) c b d (q .read) eb n in
       same-bin s (s .memory .words) i (Some (claim b g)) d refl (ne-eqb b d (λ x. n (sym x))) old
@@ -178,7 +164,7 @@ module _ (s : State) (i b : ℕ) (I : Invariant s) where
       let v = push-view s i b in
       record {
         waits-alters-nothing = λ a. push-waiting o v a;
-        waits-keeps-all = λ a c. subst (λ t. Same central s t c) (sym (push-waiting o v a)) (same-state s c);
+        waits-keeps-all = λ a c. subst (λ t. Same central s t c) (sym (push-waiting o v a)) (same-self central s c);
         moved-enters-nobody = push-moving o v;
         in-enters = push-entering o v;
         out-had-left = λ a. absurd (push-never-out o v a);
@@ -213,8 +199,8 @@ leave-effect s i b I = go (leaves s i b) (leave-view s i b) refl
           keeps-age = ap age-of k ∙ age-unlocked w (omega arith) ∙ sym (age-locked (word-at s b) l);
           out-takes-off = λ a j. passes-drop (at b) (s .memory .records) i j (record-there s i I hi);
           out-leaves-nobody = λ a j. refl;
-          moved-stays-asker = λ a. let z : _≡_ {A = ℕ} 0 1 = cc in absurd (omega arith);
-          moved-is-leaving = λ a. let z : _≡_ {A = ℕ} 0 1 = cc in absurd (omega arith);
+          moved-stays-asker = λ a. out-moved (cc);
+          moved-is-leaving = λ a. out-moved (cc);
           other-bins-keep-all =
               λ d _ n.
               let x = getD-set-other (s .memory .words) b d w 0 n in

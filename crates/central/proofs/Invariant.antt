@@ -10,19 +10,19 @@ use lib.ListN.{length, getD, set}
 use Rattle.std.specs.declared.option.Option.{Option}
 use Rattle.std.specs.declared.option.Option.the-variants.{Some, None}
 use Rattle.std.proofs.shelf.Lists.{length-set, length-replicate, getD-replicate, getD-set-same, getD-set-other}
-use Rattle.std.proofs.shelf.Tests.{eqb-true, eq-eqb, ne-eqb, lt-ltb, and-left, and-right, and-from, true≢false, cases-eq}
+use Rattle.std.proofs.shelf.Tests.{eqb-true, eq-eqb, ne-eqb, lt-ltb, and-left, and-right, true≢false, cases-eq}
 use Rattle.bank.specs.Claims.{passes, claim, at-stage}
 use Rattle.bank.specs.Locks.{fitting, word-at, record-of, with-both}
 use Rattle.bank.specs.Memory.{in-range}
 use Rattle.bank.specs.declared.memory.Claim.{Claim}
 use Rattle.bank.proofs.Admission.{Sized, sized}
-use Rattle.bank.proofs.Claims.{passes-set, getD-replicate-none, write-cases}
+use Rattle.bank.proofs.Askers.{at-no-other, not-at, changed}
+use Rattle.bank.proofs.Claims.{passes-set, getD-replicate-none, write-cases, at-stage-from}
 use Rattle.central.specs.declared.Stage.{Stage}
 use Rattle.central.specs.declared.Stage.the-variants.{Look, Swap, Inside}
 use Rattle.central.specs.Calls.{laid-out, staged}
 use Rattle.central.specs.State.{State, sessions-of, bins-of, nodes-for, entered}
 use Rattle.central.specs.Word.{lock-bit, unlocked, locked, released}
-use Rattle.bank.proofs.Askers.{at-no-other, not-at}
 
 -- whether session i has entered bin b
 abbrev pub holds : State → ℕ → ℕ → Bool
@@ -75,13 +75,6 @@ laid-invariant s n m a h l =
     }
 
 -- A CHANGE: other words, and another record of session i.
-abbrev pub changed : State → List ℕ → ℕ → Option (Claim Stage) → State
-changed s ws i r =
-    record {
-      bank = s .bank;
-      memory = record { words = ws; records = set (s .memory .records) i r; nodes = s .memory .nodes };
-    }
-
 alike : (w v : ℕ) (p q : ℕ → Bool) → v ≡ w → ((j : ℕ) → q j ≡ p j) → Bin-state w p → Bin-state v q
 alike w v p q e f (free l h) = free (omega arith) (λ j. f j ∙ h j)
 alike w v p q e f (held i l k h) = held i (omega arith) (omega arith) (λ j. f j ∙ h j)
@@ -141,8 +134,7 @@ outside s i c e f b = ap (passes (at-stage entered b)) e ∙ and-right (eqb (c .
 pub claim-holds :
     (s : State) (i b : ℕ) (c : Claim Stage) → record-of s i ≡ Some c → c .bin ≡ b → entered (c .stage) ≡ true →
     holds s b i ≡ true
-claim-holds s i b c e q f =
-    ap (passes (at-stage entered b)) e ∙ and-from (eqb (c .bin) b) (entered (c .stage)) (eq-eqb (c .bin) b q) f
+claim-holds s i b c e q f = ap (passes (at-stage entered b)) e ∙ at-stage-from entered b c q f
 
 -- MOVED: a session that has entered no bin takes a stage before its entry.
 pub moved-invariant :
@@ -195,12 +187,10 @@ entry-invariant s i b I hi hb old low =
     elsewhere : (c : ℕ) → (c ≡ b → ⊥) → passes (at-stage entered c) r ≡ holds s c i
     elsewhere c n = and-left (eqb b c) true (ne-eqb b c (λ q. n (sym q))) ∙ sym (old c)
 
-    own : passes (at-stage entered b) r ≡ true
-    own = and-from (eqb b b) true (eq-eqb b b refl) refl
-
     holders : (j : ℕ) → holds (with-both s b w i r) b j ≡ eqb j i
     holders j =
         let others = no-holder (word-at s b) (holds s b) (I .bin b hb) low in
+        let own = at-stage-from entered b (claim b Inside) refl refl in
         ⊎-elim
         (λ q. ap (passes (at-stage entered b)) (q .1) ∙ own ∙ sym (eq-eqb j i (q .0)))
         (λ q. ap (passes (at-stage entered b)) (q .1) ∙ others j ∙ sym (ne-eqb j i (q .0)))

@@ -1,19 +1,19 @@
 -- What a state with the invariant means at each bin.
 use mathlib.Core.Bool.{true, false}
-use mathlib.Core.Path.{_≡_, refl, sym, ap, _∙_}
+use mathlib.Core.Path.{_≡_, refl, sym, _∙_}
 use Prim.Native.Nat.{ℕ, _≤_, _<_, _^_}
 use native.Mathlib.Omega.{arith}
 use Rattle.std.specs.declared.option.Option.the-variants.{Some, None}
 use Rattle.std.proofs.shelf.Tests.{eqb-true, eq-eqb, ltb-true, lt-ltb, le-ltb, true≢false, false≢true, cond-true, cond-false, cond-both}
-use Rattle.bank.specs.Claims.{passes, at-stage, askers}
+use Rattle.bank.specs.Claims.{at-stage, askers}
 use Rattle.bank.specs.Laws.{Bin-meaning, Asker-exists}
-use Rattle.bank.specs.Locks.{word-at, record-of}
-use Rattle.bank.proofs.Claims.{passed, found-one, claim-asker, inside-claim, nobody-inside}
+use Rattle.bank.specs.Locks.{word-at}
+use Rattle.bank.proofs.Askers.{one-bin, asker-session, asker-in-range}
+use Rattle.bank.proofs.Claims.{found-none, found-one, claim-asker, inside-claim}
 use Rattle.central.specs.Meaning.{inside}
 use Rattle.central.specs.State.{State, sessions-of, bins-of, entered}
 use Rattle.central.specs.Word.{lock-bit, unlocked, released, age-of}
-use Rattle.bank.proofs.Askers.{one-bin, asker-has-record, asker-in-range}
-use Rattle.central.proofs.Invariant.{Invariant, Bin-state, free, held, holds, lengths, claim-holds, no-holder, one-holder}
+use Rattle.central.proofs.Invariant.{Invariant, Bin-state, free, held, holds, no-holder, one-holder}
 use Rattle.central.proofs.Reachable.{central}
 
 -- THE AGE of a word
@@ -29,19 +29,11 @@ age-below w = cond-both (unlocked w) w (released w) (λ a. a < lock-bit) (ltb-tr
 -- THE ONE INSIDE a bin is the session that has entered it
 pub holds-inside : (s : State) (b i : ℕ) → Invariant s → b < bins-of s → holds s b i ≡ true → inside s b ≡ Some i
 holds-inside s b i I h e =
-    let w = passed (at-stage entered b) (record-of s i) e in
     let o = one-holder (word-at s b) (holds s b) i (I .bin b h) e in
-    found-one
-    (at-stage entered b)
-    (s .memory .records)
-    i
-    (w .0)
-    (w .1)
-    (w .2)
-    (λ j c f g. eqb-true j i (sym (o .1 j) ∙ ap (passes (at-stage entered b)) f ∙ g))
+    found-one (at-stage entered b) (s .memory .records) i e (λ j f. eqb-true j i (sym (o .1 j) ∙ f))
 
 pub none-inside : (s : State) (b : ℕ) → ((j : ℕ) → holds s b j ≡ false) → inside s b ≡ None
-none-inside s b h = nobody-inside entered s b (λ j c e q f. true≢false (sym (claim-holds s j b c e q f) ∙ h j))
+none-inside s b h = found-none (at-stage entered b) 0 (s .memory .records) h
 
 pub bin-meaning : (s : State) (b : ℕ) → Invariant s → b < bins-of s → Bin-meaning central s b
 bin-meaning s b I h =
@@ -74,10 +66,6 @@ bin-meaning s b I h =
 pub asker-exists : (s : State) (i b : ℕ) → Invariant s → Asker-exists central s i b
 asker-exists s i b I =
     record {
-      session =
-          λ e.
-          let l = asker-has-record s b i e in
-          let z = lengths s (sessions-of s) (bins-of s) (I .fit) in
-          omega arith;
+      session = asker-session s 0 (sessions-of s) (bins-of s) b i (I .fit);
       bin = asker-in-range s (bins-of s) b i (I .ranged i);
     }

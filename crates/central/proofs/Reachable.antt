@@ -3,7 +3,7 @@ use mathlib.Core.Bool.{true, false}
 use mathlib.Core.Path.{_≡_, refl, ap}
 use Prim.Native.Nat.{ℕ}
 use Rattle.std.specs.Results.{isOk}
-use Rattle.std.proofs.shelf.Tests.{false≢true, cond-both}
+use Rattle.std.proofs.shelf.Tests.{cond-both}
 use Rattle.bank.specs.Claims.{passes, at-stage, askers}
 use Rattle.bank.specs.Kind.{Kind, kind, Reached, after-layout, after-ask, after-push, after-leave}
 use Rattle.bank.specs.Locks.{fitting, with-bank, word-at}
@@ -11,6 +11,7 @@ use Rattle.bank.specs.Outcome.{Outcome}
 use Rattle.bank.specs.declared.answers.AskAnswer.{AskAnswer}
 use Rattle.bank.specs.declared.answers.LeaveAnswer.{LeaveAnswer}
 use Rattle.bank.specs.declared.answers.PushAnswer.{PushAnswer}
+use Rattle.bank.proofs.Layouts.{layout-granted}
 use Rattle.central.specs.declared.Stage.the-variants.{Look, Swap}
 use Rattle.central.specs.Calls as calls
 use Rattle.central.specs.Calls.{after-look}
@@ -18,7 +19,7 @@ use Rattle.central.specs.Meaning as meaning
 use Rattle.central.specs.State.{State, nodes-for, entered}
 use Rattle.central.specs.Word.{unlocked, lock-bit, age-of}
 use Rattle.central.proofs.Invariant.{Invariant, holds, sound-stage, outside, laid-invariant, moved-invariant, entry-invariant, exit-invariant}
-use Rattle.central.proofs.Views.{Layout-view, layout-view, layout-refused, layout-granted, Ask-view, ask-view, ask-refused, ask-joins, Push-view, push-view, push-refused, push-waits, push-moves, push-enters, Leave-view, leave-view, leave-refused, leave-exits}
+use Rattle.central.proofs.Views.{Ask-view, ask-view, ask-refused, ask-joins, Push-view, push-view, push-refused, push-waits, push-moves, push-enters, Leave-view, leave-view, leave-refused, leave-exits}
 
 abbrev pub central : Kind State
 central =
@@ -56,11 +57,10 @@ pub look-outside : (w : ℕ) → entered (after-look w) ≡ false
 look-outside w = cond-both (unlocked w) (Swap w) Look (λ g. entered g ≡ false) (λ e. refl) (λ e. refl)
 
 -- the invariant holds after a granted layout, and every call keeps it
-layout-keeps :
-    (s : State) (n m a : ℕ) (o : Outcome (Unit {0}) State) → Layout-view s n m a o → isOk (o .answer) ≡ true →
-    Invariant (o .after)
-layout-keeps s n m a o layout-refused h = absurd (false≢true h)
-layout-keeps s n m a o (layout-granted e l) h = laid-invariant s n m a e l
+layout-keeps : (s : State) (n m a : ℕ) → isOk (calls.lays s n m a .answer) ≡ true → Invariant (calls.lays s n m a .after)
+layout-keeps s n m a h =
+    let g = layout-granted central calls.laid-out (λ s n m a. refl) s n m a h in
+    rw (g .2) (laid-invariant s n m a (g .0) (g .1))
 
 ask-keeps : (s : State) (i b : ℕ) (o : Outcome AskAnswer State) → Ask-view s i b o → Invariant s → Invariant (o .after)
 ask-keeps s i b o (ask-refused f) I = I
@@ -85,7 +85,7 @@ leave-keeps s i b o (leave-exits c q eb ei) I =
     exit-invariant s i b c I (q .admitted .session) (q .admitted .bin) (q .read) eb ei
 
 pub reached-invariant : {s : State} → Reached central s → Invariant s
-reached-invariant (after-layout s n m a h) = layout-keeps s n m a (calls.lays s n m a) (layout-view s n m a) h
+reached-invariant (after-layout s n m a h) = layout-keeps s n m a h
 reached-invariant (after-ask s i b r) = ask-keeps s i b (calls.asks s i b) (ask-view s i b) (reached-invariant r)
 reached-invariant (after-push s i b r) = push-keeps s i b (calls.pushes s i b) (push-view s i b) (reached-invariant r)
 reached-invariant (after-leave s i b r) = leave-keeps s i b (calls.leaves s i b) (leave-view s i b) (reached-invariant r)

@@ -1,57 +1,44 @@
 -- When each call at a state with the invariant is refused, with which fault, and when it is granted.
 use mathlib.Core.Bool.{Bool, true, false, cond}
-use mathlib.Core.Logic.{⊎-elim}
 use mathlib.Core.Path.{_≡_, refl, sym, ap, _∙_}
-use Prim.Native.Nat.{ℕ, _≤_, _<_}
+use Prim.Native.Nat.{ℕ, _<_}
 use lib.Dec.{eqb}
 use Rattle.std.specs.Results.{isOk}
 use Rattle.std.specs.declared.option.Option.{Option}
 use Rattle.std.specs.declared.option.Option.the-variants.{Some, None}
 use Rattle.std.specs.declared.result.Result.the-variants.{Ok, Err}
-use Rattle.std.proofs.shelf.Tests.{eq-eqb, and-from, true≢false, false≢true, cases-bool}
+use Rattle.std.proofs.shelf.Tests.{eq-eqb, true≢false, false≢true}
 use Rattle.bank.specs.Claims.{passes, claim, at, at-stage, askers}
 use Rattle.bank.specs.Laws.{Ask-rule, Push-rule, Leave-rule, Peek-rule, Ahead-rule}
 use Rattle.bank.specs.Locks.{word-at, record-of, with-both}
 use Rattle.bank.specs.Outcome.{granted}
-use Rattle.bank.specs.Refusals.{no-session, no-bin, out-of-turn}
+use Rattle.bank.specs.Refusals.{out-of-turn}
 use Rattle.bank.specs.declared.answers.PushAnswer.{PushAnswer}
 use Rattle.bank.specs.declared.answers.PushAnswer.the-variants.{Waits, Moved, In}
 use Rattle.bank.specs.declared.memory.Claim.{Claim}
-use Rattle.bank.proofs.Admission.{admits-no-session, admits-no-bin, session-missing, session-there, bin-missing, bin-there, own-refused, own-there}
-use Rattle.bank.proofs.Claims.{asker-claim, inside-claim}
+use Rattle.bank.proofs.Admission.{session-missing, session-there, bin-missing, bin-there, own-no-session, own-no-bin, own-there}
+use Rattle.bank.proofs.Askers.{no-claim}
+use Rattle.bank.proofs.Claims.{untrue, at-stage-from, asker-claim, inside-claim}
 use Rattle.central.specs.declared.Stage.{Stage}
 use Rattle.central.specs.declared.Stage.the-variants.{Look, Swap, Inside}
 use Rattle.central.specs.Calls.{pushes, pushes-at, staged, leaves}
 use Rattle.central.specs.Meaning.{inside}
 use Rattle.central.specs.State.{State, sessions-of, bins-of, entered, own-record}
 use Rattle.central.specs.Word.{unlocked, locked}
-use Rattle.bank.proofs.Askers.{no-claim}
 use Rattle.central.proofs.Invariant.{Invariant, sound, sound-stage, claim-holds}
 use Rattle.central.proofs.Meanings.{holds-inside}
 use Rattle.central.proofs.Reachable.{central}
 
--- the caller's own record is read exactly where the session and the bin are there
-module _ (s : State) (i b : ℕ) (I : Invariant s) where
-  own-no-session : sessions-of s ≤ i → own-record s i b ≡ Err (no-session i)
-  own-no-session h =
-      let n = sessions-of s in
-      let m = bins-of s in
-      own-refused 0 n m (s .memory) i b (no-session i) (admits-no-session 0 n m (s .memory) i b (I .fit) h)
-
-  own-no-bin : i < sessions-of s → bins-of s ≤ b → own-record s i b ≡ Err (no-bin b)
-  own-no-bin h k =
-      let n = sessions-of s in
-      let m = bins-of s in
-      own-refused 0 n m (s .memory) i b (no-bin b) (admits-no-bin 0 n m (s .memory) i b (I .fit) h k)
-
-  own-is : i < sessions-of s → b < bins-of s → own-record s i b ≡ Ok (record-of s i)
-  own-is h k = own-there 0 (sessions-of s) (bins-of s) (s .memory) i b (I .fit) h k (I .ranged i)
+-- the caller's own record is read where the session and the bin are there
+own-is :
+    (s : State) (i b : ℕ) → Invariant s → i < sessions-of s → b < bins-of s → own-record s i b ≡ Ok (record-of s i)
+own-is s i b I h k = own-there 0 (sessions-of s) (bins-of s) (s .memory) i b (I .fit) h k (I .ranged i)
 
 pub ask-rule : (s : State) (i b : ℕ) → Invariant s → Ask-rule central s i b
 ask-rule s i b I =
     record {
-      no-session = λ h. rw (own-no-session s i b I h);
-      no-bin = λ h k. rw (own-no-bin s i b I h k);
+      no-session = λ h. rw (own-no-session 0 (sessions-of s) (bins-of s) (s .memory) i b (I .fit) h);
+      no-bin = λ h k. rw (own-no-bin 0 (sessions-of s) (bins-of s) (s .memory) i b (I .fit) h k);
       asker = λ h k c l e. rw (own-is s i b I h k, asker-claim s c i e .1);
       granted = λ h k n. rw (own-is s i b I h k, no-claim s (bins-of s) i (I .ranged i) n);
     }
@@ -94,8 +81,8 @@ push-stranger s i b o n = go (record-of s i) refl
 pub push-rule : (s : State) (i b : ℕ) → Invariant s → Push-rule central s i b
 push-rule s i b I =
     record {
-      no-session = λ h. rw (own-no-session s i b I h);
-      no-bin = λ h k. rw (own-no-bin s i b I h k);
+      no-session = λ h. rw (own-no-session 0 (sessions-of s) (bins-of s) (s .memory) i b (I .fit) h);
+      no-bin = λ h k. rw (own-no-bin 0 (sessions-of s) (bins-of s) (s .memory) i b (I .fit) h k);
       stranger = λ h k n. push-stranger s i b (own-is s i b I h k) n;
       inside =
           λ h k e.
@@ -112,34 +99,27 @@ push-rule s i b I =
     outside :
         b < bins-of s → (inside s b ≡ Some i → ⊥) → (c : Claim Stage) → record-of s i ≡ Some c → c .bin ≡ b →
         entered (c .stage) ≡ false
-    outside k n c e q =
-        ⊎-elim
-        (λ p. absurd (n (holds-inside s b i I k (claim-holds s i b c e q p))))
-        (λ p. p)
-        (cases-bool (entered (c .stage)))
+    outside k n c e q = untrue (entered (c .stage)) (λ p. n (holds-inside s b i I k (claim-holds s i b c e q p)))
 
 pub leave-rule : (s : State) (i b : ℕ) → Invariant s → Leave-rule central s i b
 leave-rule s i b I =
     record {
-      no-session = λ h. rw (own-no-session s i b I h);
-      no-bin = λ h k. rw (own-no-bin s i b I h k);
+      no-session = λ h. rw (own-no-session 0 (sessions-of s) (bins-of s) (s .memory) i b (I .fit) h);
+      no-bin = λ h k. rw (own-no-bin 0 (sessions-of s) (bins-of s) (s .memory) i b (I .fit) h k);
       not-inside = λ h k n. not-inside k (own-is s i b I h k) n (record-of s i) refl;
       granted =
           λ h k e.
           let w = inside-claim entered s b i e in
-          let q = and-from (eqb (w .0 .bin) b) (entered (w .0 .stage)) (eq-eqb (w .0 .bin) b (w .2)) (w .3) in
-          rw (own-is s i b I h k, w .1, q);
+          rw (own-is s i b I h k, w .1, at-stage-from entered b (w .0) (w .2) (w .3));
     }
   where
     not-inside :
         b < bins-of s → own-record s i b ≡ Ok (record-of s i) → (inside s b ≡ Some i → ⊥) →
         (r : Option (Claim Stage)) → record-of s i ≡ r → leaves s i b .answer ≡ Err (out-of-turn i)
     not-inside k o n None e = rw (o, e)
-    not-inside k o n (Some c) e = go (at-stage entered b c) refl
-      where
-        go : (t : Bool) → at-stage entered b c ≡ t → leaves s i b .answer ≡ Err (out-of-turn i)
-        go false q = rw (o, e, q)
-        go true q = absurd (n (holds-inside s b i I k (ap (passes (at-stage entered b)) e ∙ q)))
+    not-inside k o n (Some c) e =
+        let q = untrue (at-stage entered b c) (λ p. n (holds-inside s b i I k (ap (passes (at-stage entered b)) e ∙ p))) in
+        rw (o, e, q)
 
 pub peek-rule : (s : State) (b : ℕ) → Invariant s → Peek-rule central s b
 peek-rule s b I =

@@ -1,17 +1,17 @@
--- The ways that each call may go, at any state.
-use mathlib.Core.Bool.{true, false, _&&_}
+-- The ways that an ask, a push and a leave may go, at any state.
+use mathlib.Core.Bool.{true, false}
 use mathlib.Core.Path.{_≡_, refl, ap, _∙_}
 use Prim.Native.Nat.{ℕ, _<_}
-use lib.Dec.{ltb, eqb}
+use lib.Dec.{eqb}
 use Rattle.std.specs.declared.option.Option.{Option}
 use Rattle.std.specs.declared.option.Option.the-variants.{Some, None}
 use Rattle.std.specs.declared.result.Result.{Result}
 use Rattle.std.specs.declared.result.Result.the-variants.{Ok, Err}
-use Rattle.std.proofs.shelf.Tests.{eqb-true, ltb-true, and-parts, cond-both}
+use Rattle.std.proofs.shelf.Tests.{eqb-true, ltb-true, cond-both}
 use Rattle.bank.specs.Claims.{claim, at, at-stage}
-use Rattle.bank.specs.Locks.{fitting, word-at, with-both}
+use Rattle.bank.specs.Locks.{word-at, with-both}
 use Rattle.bank.specs.Outcome.{Outcome, refused, granted}
-use Rattle.bank.specs.Refusals.{bad-size, bad-record, out-of-turn}
+use Rattle.bank.specs.Refusals.{bad-record, out-of-turn}
 use Rattle.bank.specs.declared.answers.AskAnswer.{AskAnswer}
 use Rattle.bank.specs.declared.answers.AskAnswer.the-variants.{NotYet}
 use Rattle.bank.specs.declared.answers.LeaveAnswer.{LeaveAnswer}
@@ -21,26 +21,13 @@ use Rattle.bank.specs.declared.answers.PushAnswer.the-variants.{Waits, Moved, I
 use Rattle.bank.specs.declared.memory.Claim.{Claim}
 use Rattle.bank.specs.declared.refusals.Fault.{Fault}
 use Rattle.bank.proofs.Admission.{Own, owned}
+use Rattle.bank.proofs.Claims.{at-stage-parts}
 use Rattle.central.specs.declared.Stage.{Stage}
 use Rattle.central.specs.declared.Stage.the-variants.{Look, Swap, Inside}
-use Rattle.central.specs.Calls.{laid-out, lays, staged, after-look, asks, asks-own, pushes, pushes-at, pushes-own, swaps, leaves, leaves-own}
-use Rattle.central.specs.State.{State, sessions-of, bins-of, nodes-for, entered, own-record}
+use Rattle.central.specs.Calls.{staged, after-look, asks, asks-own, pushes, pushes-at, pushes-own, swaps, leaves, leaves-own}
+use Rattle.central.specs.State.{State, sessions-of, bins-of, entered, own-record}
 use Rattle.central.specs.Word.{lock-bit, unlocked, locked, released}
 use Rattle.central.proofs.Invariant.{sound-stage}
-
-pub data Layout-view (s : State) (n m a : ℕ) : Outcome (Unit {0}) State → Type 0 where
-  layout-refused : Layout-view s n m a (refused s bad-size)
-  layout-granted : fitting nodes-for s n m ≡ true → a < lock-bit → Layout-view s n m a (granted (laid-out s n m a) tt)
-
-pub layout-view : (s : State) (n m a : ℕ) → Layout-view s n m a (lays s n m a)
-layout-view s n m a =
-    cond-both
-    (fitting nodes-for s n m && ltb a lock-bit)
-    _
-    _
-    (Layout-view s n m a)
-    (λ e. let p = and-parts (fitting nodes-for s n m) (ltb a lock-bit) e in layout-granted (p .0) (ltb-true a lock-bit (p .1)))
-    (λ e. layout-refused)
 
 -- a call past the refusals 1, 2 and 3 whose own record r is in range
 abbrev pub Owns : State → ℕ → ℕ → Option (Claim Stage) → Type 0
@@ -135,5 +122,5 @@ leave-view s i b = go (own-record s i b) refl
         _
         _
         (Leave-view s i b)
-        (λ q. let p = and-parts (eqb (c .bin) b) (entered (c .stage)) q in leave-exits c o (eqb-true (c .bin) b (p .0)) (p .1))
+        (λ q. let p = at-stage-parts entered b c q in leave-exits c o (p .0) (p .1))
         (λ q. leave-refused (out-of-turn i))

@@ -1,7 +1,6 @@
 -- What a granted ask, push and leave do.
-use mathlib.Core.Bool.{Bool, true, false, cond, _||_, _&&_, not}
+use mathlib.Core.Bool.{Bool, true, false, cond, _&&_}
 use mathlib.Core.List.{List, [], _∷_, _++_}
-use mathlib.Core.Logic.{_⊎_, inl, inr, ⊎-elim}
 use mathlib.Core.Path.{_≡_, refl, sym, ap, _∙_}
 use Prim.Native.Nat.{ℕ, suc, _%_, _≤_, _<_}
 use native.Mathlib.Omega.{arith}
@@ -9,10 +8,9 @@ use lib.Dec.{eqb}
 use lib.ListN.{getD, set}
 use Rattle.std.specs.declared.option.Option.{Option}
 use Rattle.std.specs.declared.option.Option.the-variants.{Some, None}
-use Rattle.std.specs.declared.result.Result.{Result}
 use Rattle.std.specs.declared.result.Result.the-variants.{Ok}
 use Rattle.std.proofs.shelf.Lists.{getD-set-other}
-use Rattle.std.proofs.shelf.Tests.{eq-eqb, ne-eqb, and-left, and-right, or-left, not-from-true, true≢false, cases-eq, cases-bool}
+use Rattle.std.proofs.shelf.Tests.{eq-eqb, ne-eqb, and-right, true≢false}
 use Rattle.bank.specs.Claims.{passes, at, at-stage, askers, claim}
 use Rattle.bank.specs.Kind.{Same, Entry, No-entry, has}
 use Rattle.bank.specs.Laws.{Ask-effect, Push-effect, Leave-effect, Fair-ask, Fair-push, Fair-leave}
@@ -21,12 +19,14 @@ use Rattle.bank.specs.Outcome.{Outcome, granted}
 use Rattle.bank.specs.declared.answers.AskAnswer.{AskAnswer}
 use Rattle.bank.specs.declared.answers.AskAnswer.the-variants.{In as EntersAtOnce, NotYet}
 use Rattle.bank.specs.declared.answers.LeaveAnswer.{LeaveAnswer}
-use Rattle.bank.specs.declared.answers.LeaveAnswer.the-variants.{Moved as StillLeaving, Out as OutAtOnce}
+use Rattle.bank.specs.declared.answers.LeaveAnswer.the-variants.{Out as OutAtOnce}
 use Rattle.bank.specs.declared.answers.PushAnswer.{PushAnswer}
 use Rattle.bank.specs.declared.answers.PushAnswer.the-variants.{Waits, Moved, In, Out}
 use Rattle.bank.specs.declared.memory.Claim.{Claim}
-use Rattle.bank.specs.declared.refusals.Fault.{Fault}
-use Rattle.bank.proofs.Claims.{some-same, passes-set, found-set, claim-asker, nobody-inside}
+use Rattle.bank.proofs.Askers.{at-no-other, changed, same-stage, same-askers, same-inside, passes-join, passes-drop}
+use Rattle.bank.proofs.Claims.{some-same, untrue, passes-set, found-set, nobody-inside}
+use Rattle.bank.proofs.Distinct.{push-number, asked-in, asked-not-yet, out-moved}
+use Rattle.bank.proofs.Itself.{same-self}
 use Rattle.ticket.specs.declared.Turn.{Turn}
 use Rattle.ticket.specs.Word.{served-of, word-of, after, past, outstanding, calm-of}
 use Rattle.ticket.specs.State.{State, turn, entered}
@@ -34,19 +34,11 @@ use Rattle.ticket.specs.Meaning.{inside, age-with, calm, holds, holders, line,
 use Rattle.ticket.specs.Calls.{drawn, asks, pushes, served-next, leaves}
 use Rattle.ticket.proofs.Tickets.{forward, served-below, past-forward, forward-past, forward-none, forward-apart}
 use Rattle.ticket.proofs.Holders.{holders-set, holders-round, holders-push}
-use Rattle.ticket.proofs.Invariant.{next-at, served-at, outstanding-at, Invariant, lengths, Unclaimed, asked, new-claim, ask-next, ask-own, ask-room, ask-serves, ask-outstanding, ask-invariant, Claimed, entry-claim, pushed, push-own, push-at, push-invariant, left, leave-ticket, leave-serves, leave-outstanding, leave-few, leave-own, leave-claims, leave-elsewhere}
+use Rattle.ticket.proofs.Invariant.{next-at, served-at, outstanding-at, Invariant, lengths, Unclaimed, asked, new-claim, ask-next, ask-length, ask-own, ask-room, ask-serves, ask-outstanding, ask-invariant, Claimed, entry-claim, pushed, push-own, push-at, push-invariant, left, leave-ticket, leave-serves, leave-outstanding, leave-few, leave-length, leave-own, leave-claims}
 use Rattle.ticket.proofs.Views.{ticket}
-use Rattle.ticket.proofs.Meanings.{elsewhere, inside-one, holder-is, calm-outstanding, outstanding-calm, calm-inside, unasked-outstanding, line-first, line-place, line-meaning}
+use Rattle.ticket.proofs.Meanings.{inside-one, of-ticket, holder-is, calm-outstanding, outstanding-calm, calm-inside, unasked-outstanding, line-first, line-place, line-meaning}
 
 -- A CALL AT ANOTHER BIN
--- the state with other words, and another record of session i
-abbrev changed : State → List ℕ → ℕ → Option (Claim Turn) → State
-changed s ws i r =
-    record {
-      bank = s .bank;
-      memory = record { words = ws; records = set (s .memory .records) i r; nodes = s .memory .nodes };
-    }
-
 -- neither the old nor the new record is a claim at bin c, whose word is the same
 same-elsewhere :
     (s : State) (ws : List ℕ) (i : ℕ) (r : Option (Claim Turn)) (c : ℕ) → getD ws c 0 ≡ word-at s c →
@@ -54,30 +46,19 @@ same-elsewhere :
 same-elsewhere s ws i r c w p q =
     let t = changed s ws i r in
     let rs = s .memory .records in
+    let v = served-at t c in
+    let e = same-inside s ws i r c p q entered in
     record {
-      askers = λ j. passes-set (at c) rs i r j (p ∙ sym q);
+      askers = same-askers s ws i r c p q;
       leaving = λ j. refl;
-      inside = same-inside;
-      age = ap (age-with (served-at t c)) same-inside ∙ ap (λ x. age-with (served-of x) (inside s c)) w;
+      inside = e;
+      age = ap (age-with v) e ∙ ap (λ x. age-with (served-of x) (inside s c)) w;
       calm = ap calm-of w;
       mark = w;
       line =
-          holders-set rs i r c (served-at t c) (outstanding-at t c) (λ o l. same-stage (of-ticket (forward (served-at t c) o)))
+          holders-set rs i r c v (outstanding-at t c) (λ o l. same-stage s ws i r c p q (of-ticket (forward v o)))
           ∙ ap (λ x. holders rs c (served-of x) (outstanding x)) w;
     }
-  where
-    of-ticket : ℕ → Turn → Bool
-    of-ticket n x = eqb (x .ticket) n
-
-    same-stage : (f : Turn → Bool) → passes (at-stage f c) r ≡ passes (at-stage f c) (record-of s i)
-    same-stage f = elsewhere f c r p ∙ sym (elsewhere f c (record-of s i) q)
-
-    same-inside : inside (changed s ws i r) c ≡ inside s c
-    same-inside = found-set (at-stage entered c) 0 (s .memory .records) i r (same-stage entered)
-
-same-self : (s : State) (c : ℕ) → Same ticket s s c
-same-self s c =
-    record { askers = λ j. refl; leaving = λ j. refl; inside = refl; age = refl; calm = refl; mark = refl; line = refl }
 
 -- PUSHES NEEDED
 few-needed : (r : Option (Claim Turn)) → needed-by r ≤ 1
@@ -98,15 +79,6 @@ other-needs :
 other-needs s i r j n = no-more (ap needed-by (getD-set-other (s .memory .records) i j r None n))
 
 -- ASK
--- an ask answers in exactly where its test t says so
-asked-in : (t : Bool) → _≡_ {A = Result AskAnswer Fault} (Ok (cond t EntersAtOnce NotYet)) (Ok EntersAtOnce) → t ≡ true
-asked-in true e = refl
-asked-in false e = let z : _≡_ {A = ℕ} 0 1 = cc in absurd (omega arith)
-
-asked-not-yet : (t : Bool) → _≡_ {A = Result AskAnswer Fault} (Ok (cond t EntersAtOnce NotYet)) (Ok NotYet) → t ≡ false
-asked-not-yet true e = let z : _≡_ {A = ℕ} 0 1 = cc in absurd (omega arith)
-asked-not-yet false e = refl
-
 module _
     {s : State} {i b : ℕ} (I : Invariant s) (U : Unclaimed s i b)
     (e : asks s i b ≡ drawn s i b (next-at s b) (served-at s b)) where
@@ -116,18 +88,6 @@ module _
 
   answered : asks s i b .answer ≡ Ok (cond (calm s b) EntersAtOnce NotYet)
   answered = ap (λ (o : Outcome AskAnswer State). o .answer) e
-
-  ask-joins : (j : ℕ) → askers t b j ≡ (eqb j i || askers s b j)
-  ask-joins j = go (cases-eq j i)
-    where
-      go : (j ≡ i) ⊎ (j ≡ i → ⊥) → askers t b j ≡ (eqb j i || askers s b j)
-      go (inl q) =
-          ap (askers t b) q
-          ∙ claim-asker t b i (new-claim I U) (ask-own I U) refl
-          ∙ sym (or-left (eqb j i) (askers s b j) (eq-eqb j i q))
-      go (inr q) =
-          ap (passes (at b)) (getD-set-other (s .memory .records) i j (Some (new-claim I U)) None q)
-          ∙ sym (ap (λ x. x || askers s b j) (ne-eqb j i q))
 
   ask-entry : calm s b ≡ true → Entry ticket s t i b
   ask-entry q =
@@ -154,7 +114,7 @@ module _
   pub ask-effect : Ask-effect ticket s t i b
   ask-effect =
       record {
-        joins = ask-joins;
+        joins = λ j. passes-join (at b) (s .memory .records) i (new-claim I U) j (ask-length I U) (eq-eqb b b refl);
         in-enters = λ a. ask-entry (asked-in (calm s b) (sym answered ∙ a));
         not-yet-enters-nobody = λ a. ask-no-entry (asked-not-yet (calm s b) (sym answered ∙ a));
         other-bins-keep-all =
@@ -203,7 +163,7 @@ module _
   calm-empty q = ap (holders (s .memory .records) b (served-at s b)) (calm-outstanding s b q)
 
   not-calm : (line s b ≡ [] → ⊥) → calm s b ≡ false
-  not-calm q = ⊎-elim (λ x. absurd (q (calm-empty x))) (λ x. x) (cases-bool (calm s b))
+  not-calm q = untrue (calm s b) (λ x. q (calm-empty x))
 
   pub fair-ask : Fair-ask ticket s t i b
   fair-ask =
@@ -216,17 +176,6 @@ module _
       }
 
 -- PUSH
--- the answers of a push differ
-abbrev code : PushAnswer → ℕ
-code Waits = 0
-code Moved = 1
-code In = 2
-code Out = 3
-
-apart :
-    {A : Type 0} (r : Result PushAnswer Fault) (x y : PushAnswer) → (code x ≡ code y → ⊥) → r ≡ Ok x → r ≡ Ok y → A
-apart r x y n e f = let q : x ≡ y = cc in absurd (n (ap code q))
-
 -- a push that waits
 module _
     {s : State} {i b : ℕ} {c : Claim Turn} (I : Invariant s) (C : Claimed s i b c)
@@ -234,14 +183,14 @@ module _
   waited : pushes s i b .answer ≡ Ok Waits
   waited = ap (λ (o : Outcome PushAnswer State). o .answer) e
 
-  waits-not : {A : Type 0} (y : PushAnswer) → (0 ≡ code y → ⊥) → pushes s i b .answer ≡ Ok y → A
-  waits-not y n = apart (pushes s i b .answer) Waits y n waited
+  waits-not : {A : Type 0} (y : PushAnswer) → (1 ≡ push-number (Ok y) → ⊥) → pushes s i b .answer ≡ Ok y → A
+  waits-not y n a = absurd (n (ap push-number (sym waited ∙ a)))
 
   pub push-waits-effect : Push-effect ticket s s i b
   push-waits-effect =
       record {
         waits-alters-nothing = λ a. refl;
-        waits-keeps-all = λ a k. same-self s k;
+        waits-keeps-all = λ a k. same-self ticket s k;
         moved-enters-nobody = waits-not Moved (omega arith);
         in-enters = waits-not In (omega arith);
         out-had-left = waits-not Out (omega arith);
@@ -250,7 +199,7 @@ module _
         out-takes-off = waits-not Out (omega arith);
         out-ends-leaving = waits-not Out (omega arith);
         others-stay = λ a j. refl;
-        other-bins-keep-all = λ k _ q. same-self s k;
+        other-bins-keep-all = λ k _ q. same-self ticket s k;
       }
 
   -- the first in line has the ticket served, and does not wait
@@ -284,8 +233,8 @@ module _
   came-in : pushes s i b .answer ≡ Ok In
   came-in = ap (λ (o : Outcome PushAnswer State). o .answer) e
 
-  in-not : {A : Type 0} (y : PushAnswer) → (2 ≡ code y → ⊥) → pushes s i b .answer ≡ Ok y → A
-  in-not y n = apart (pushes s i b .answer) In y n came-in
+  in-not : {A : Type 0} (y : PushAnswer) → (3 ≡ push-number (Ok y) → ⊥) → pushes s i b .answer ≡ Ok y → A
+  in-not y n a = absurd (n (ap push-number (sym came-in ∙ a)))
 
   -- another one inside would hold the same ticket
   push-nobody : inside s b ≡ None
@@ -352,9 +301,6 @@ module _
       one-less f g = omega arith
 
 -- LEAVE
-out-moved : {A : Type 0} → _≡_ {A = Result LeaveAnswer Fault} (Ok OutAtOnce) (Ok StillLeaving) → A
-out-moved e = let z : _≡_ {A = ℕ} 0 1 = cc in absurd (omega arith)
-
 module _
     {s : State} {i b : ℕ} {c : Claim Turn} (I : Invariant s) (C : Claimed s i b c) (ei : c .stage .inside ≡ true)
     (e : leaves s i b ≡ served-next s i b (word-at s b)) where
@@ -374,18 +320,6 @@ module _
           let t = I .valid j b d (w .1) q .first r ∙ sym (leave-ticket I C ei) in
           w .0 (I .unique j i d c (w .1) (C .read) (q ∙ sym (C .here)) t)
 
-  leave-takes-off : (j : ℕ) → askers v b j ≡ (not (eqb j i) && askers s b j)
-  leave-takes-off j = go (cases-eq j i)
-    where
-      go : (j ≡ i) ⊎ (j ≡ i → ⊥) → askers v b j ≡ (not (eqb j i) && askers s b j)
-      go (inl q) =
-          ap (askers v b) q
-          ∙ ap (passes (at b)) (leave-own I C ei)
-          ∙ sym (and-left (not (eqb j i)) (askers s b j) (not-from-true (eqb j i) (eq-eqb j i q)))
-      go (inr q) =
-          ap (passes (at b)) (getD-set-other (s .memory .records) i j None None q)
-          ∙ sym (ap (λ x. not x && askers s b j) (ne-eqb j i q))
-
   pub leave-effect : Leave-effect ticket s v i b
   leave-effect =
       record {
@@ -394,14 +328,15 @@ module _
             ap (age-with (served-at v b)) leave-nobody
             ∙ leave-serves I C ei
             ∙ sym (ap (age-with (served-at s b)) (inside-one s b i c I (C .read) (C .here) ei));
-        out-takes-off = λ a. leave-takes-off;
+        out-takes-off = λ a j. passes-drop (at b) (s .memory .records) i j (leave-length I C ei);
         out-leaves-nobody = λ a j. refl;
         moved-stays-asker = λ a. out-moved (sym went-out ∙ a);
         moved-is-leaving = λ a. out-moved (sym went-out ∙ a);
         other-bins-keep-all =
             λ k _ q.
             let w = getD-set-other (s .memory .words) b k (word-of (next-at s b) (after (served-at s b))) 0 q in
-            same-elsewhere s (v .memory .words) i None k w refl (leave-elsewhere I C ei k q);
+            let old = at-no-other (record-of s i) c b k (C .read) (C .here) q in
+            same-elsewhere s (v .memory .words) i None k w refl old;
       }
 
   -- the leaver holds none of the later tickets

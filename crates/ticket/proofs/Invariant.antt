@@ -1,11 +1,11 @@
 -- What holds in every reached state of the ticket kind, and that layout, ask, push and leave keep it.
-use mathlib.Core.Bool.{true, false}
+use mathlib.Core.Bool.{true}
 use mathlib.Core.Logic.{_⊎_, inl, inr}
 use mathlib.Core.Path.{_≡_, refl, sym, ap, subst, _∙_}
 use Prim.Native.Nat.{ℕ, suc, _≤_, _<_}
 use native.Mathlib.Omega.{arith}
 use lib.Dec.{eqb}
-use lib.ListN.{length, getD, set}
+use lib.ListN.{length}
 use Rattle.std.specs.declared.option.Option.the-variants.{Some, None}
 use Rattle.std.proofs.shelf.Lists.{getD-set-same, getD-set-other, length-set, length-replicate, getD-replicate}
 use Rattle.std.proofs.shelf.Tests.{eqb-true, eq-eqb, ne-eqb, cases-eq, cases-lt}
@@ -13,13 +13,14 @@ use Rattle.bank.specs.Claims.{passes, at, claim}
 use Rattle.bank.specs.Locks.{fitting, word-at, record-of, with-record}
 use Rattle.bank.specs.declared.memory.Claim.{Claim}
 use Rattle.bank.proofs.Admission.{Sized, sized}
-use Rattle.bank.proofs.Claims.{some-same, some-none, getD-replicate-none, write-cases}
+use Rattle.bank.proofs.Askers.{at-no-other}
+use Rattle.bank.proofs.Claims.{some-same, some-none, getD-replicate-none, write-cases, claim-cases}
+use Rattle.bank.proofs.Counts.{count, one, count-le, count-set, count-same, count-none}
 use Rattle.ticket.specs.declared.Turn.{Turn}
 use Rattle.ticket.specs.Word.{next-of, served-of, word-of, after, past, outstanding}
 use Rattle.ticket.specs.State.{State, sessions-of, bins-of, nodes-for, turn}
 use Rattle.ticket.specs.Calls.{laid-out, drawn, served-next}
 use Rattle.ticket.proofs.Tickets.{forward, served-word, outstanding-word, word-below, next-below, served-below, after-below, past-same, past-zero, past-more, past-less, forward-past, forward-after, forward-apart}
-use Rattle.ticket.proofs.Counts.{count, one, count-le, count-set, count-same, count-none}
 
 -- the next ticket of a bin, the one served, and how many are drawn and not yet done
 abbrev pub next-at : State → ℕ → ℕ
@@ -108,17 +109,6 @@ at-its-bin t c d k e q V =
 abbrev Claim-cases : State → ℕ → Claim Turn → ℕ → Claim Turn → Type 0
 Claim-cases s i c j d = ((j ≡ i) × (c ≡ d)) ⊎ ((j ≡ i → ⊥) × (record-of s j ≡ Some d))
 
-claim-cases :
-    (s : State) (i : ℕ) (c : Claim Turn) (j : ℕ) (d : Claim Turn) → i < length (s .memory .records) →
-    getD (set (s .memory .records) i (Some c)) j None ≡ Some d → Claim-cases s i c j d
-claim-cases s i c j d h f = go (write-cases (s .memory .records) i (Some c) None j h)
-  where
-    go :
-        ((j ≡ i) × (getD (set (s .memory .records) i (Some c)) j None ≡ Some c))
-        ⊎ ((j ≡ i → ⊥) × (getD (set (s .memory .records) i (Some c)) j None ≡ record-of s j)) → Claim-cases s i c j d
-    go (inl p) = inl (p .0, some-same c d (sym (p .1) ∙ f))
-    go (inr p) = inr (p .0, sym (p .1) ∙ f)
-
 -- the word of bin c in t, after word w was written at bin b of s
 abbrev Word-cases : State → State → ℕ → ℕ → ℕ → Type 0
 Word-cases s t b w c = ((c ≡ b) × (word-at t c ≡ w)) ⊎ ((c ≡ b → ⊥) × (word-at t c ≡ word-at s c))
@@ -146,7 +136,7 @@ module _ {s : State} {i b : ℕ} (I : Invariant s) (U : Unclaimed s i b) where
   ask-served : served-at s b < 4294967296
   ask-served = served-below (word-at s b)
 
-  ask-length : i < length (s .memory .records)
+  pub ask-length : i < length (s .memory .records)
   ask-length = session-length s i I (U .session)
 
   ask-words : (c : ℕ) → Word-cases s asked b asked-word c
@@ -159,7 +149,7 @@ module _ {s : State} {i b : ℕ} (I : Invariant s) (U : Unclaimed s i b) where
   ask-own = getD-set-same (s .memory .records) i (Some new-claim) None ask-length
 
   ask-claims : (j : ℕ) (c : Claim Turn) → record-of asked j ≡ Some c → Claim-cases s i new-claim j c
-  ask-claims j c f = claim-cases s i new-claim j c ask-length f
+  ask-claims j c f = claim-cases (s .memory .records) i new-claim j c ask-length f
 
   ask-count : count (at b) (asked .memory .records) ≡ suc (count (at b) (s .memory .records))
   ask-count =
@@ -328,7 +318,7 @@ module _
   push-own = getD-set-same (s .memory .records) i (Some entry-claim) None push-length
 
   push-claims : (j : ℕ) (d : Claim Turn) → record-of pushed j ≡ Some d → Claim-cases s i entry-claim j d
-  push-claims j d f = claim-cases s i entry-claim j d push-length f
+  push-claims j d f = claim-cases (s .memory .records) i entry-claim j d push-length f
 
   -- its bin and its ticket are those from before
   push-before :
@@ -413,7 +403,7 @@ module _ {s : State} {i b : ℕ} {c : Claim Turn} (I : Invariant s) (C : Claimed
   leave-served : served-at s b < 4294967296
   leave-served = served-below (word-at s b)
 
-  leave-length : i < length (s .memory .records)
+  pub leave-length : i < length (s .memory .records)
   leave-length = session-length s i I (C .session)
 
   leave-words : (k : ℕ) → Word-cases s left b left-word k
@@ -461,9 +451,6 @@ module _ {s : State} {i b : ℕ} {c : Claim Turn} (I : Invariant s) (C : Claimed
       let e = ap (λ r. one (passes (at b) r)) (C .read) ∙ ap one (eq-eqb (c .bin) b (C .here)) in
       omega (arith, e)
 
-  pub leave-elsewhere : (k : ℕ) → (k ≡ b → ⊥) → passes (at k) (record-of s i) ≡ false
-  leave-elsewhere k n = ap (passes (at k)) (C .read) ∙ ne-eqb (c .bin) k (λ q. n (sym q ∙ C .here))
-
   leave-number : (k : ℕ) → k < bins-of s → count (at k) (left .memory .records) ≡ outstanding-at left k
   leave-number k h = go (leave-words k)
     where
@@ -473,7 +460,7 @@ module _ {s : State} {i b : ℕ} {c : Claim Turn} (I : Invariant s) (C : Claimed
       go : Word-cases s left b left-word k → count (at k) (left .memory .records) ≡ outstanding-at left k
       go (inl p) = subst (λ d. count (at d) (left .memory .records) ≡ outstanding-at left d) (sym (p .0)) here
       go (inr p) =
-          count-same (at k) (s .memory .records) i None (sym (leave-elsewhere k (p .0)))
+          count-same (at k) (s .memory .records) i None (sym (at-no-other (record-of s i) c b k (C .read) (C .here) (p .0)))
           ∙ I .number k h
           ∙ sym (ap outstanding (p .1))
 

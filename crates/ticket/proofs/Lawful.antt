@@ -1,9 +1,10 @@
 -- The ticket kind is lawful.
 use mathlib.Core.Bool.{true}
-use mathlib.Core.Path.{_≡_, sym, ap, _∙_}
+use mathlib.Core.Path.{_≡_, refl, sym, ap, _∙_}
 use Prim.Native.Nat.{ℕ}
 use native.Mathlib.Omega.{arith}
 use Rattle.std.specs.Results.{isOk}
+use Rattle.std.specs.declared.option.Option.the-variants.{None}
 use Rattle.std.proofs.shelf.Tests.{true≢false}
 use Rattle.bank.specs.Kind.{joined}
 use Rattle.bank.specs.Laws.{Lawful, Fair, Ask-effect, Push-effect, Leave-effect, Fair-ask, Fair-push, Fair-leave}
@@ -11,13 +12,15 @@ use Rattle.bank.specs.Outcome.{Outcome}
 use Rattle.bank.specs.declared.answers.AskAnswer.{AskAnswer}
 use Rattle.bank.specs.declared.answers.LeaveAnswer.{LeaveAnswer}
 use Rattle.bank.specs.declared.answers.PushAnswer.{PushAnswer}
-use Rattle.ticket.specs.State.{State}
-use Rattle.ticket.specs.Calls.{asks, pushes, leaves}
+use Rattle.bank.proofs.Itself.{whole-state-decides}
+use Rattle.bank.proofs.Layouts.{some-state, layout-rule, layouts-alike, laid-alike}
+use Rattle.ticket.specs.Word.{word-of}
+use Rattle.ticket.specs.State.{State, nodes-for}
+use Rattle.ticket.specs.Calls.{laid-out, asks, pushes, leaves}
 use Rattle.ticket.proofs.Invariant.{Invariant}
 use Rattle.ticket.proofs.Views.{ticket, reached-invariant, Ask-view, ask-view, ask-refused, ask-drawn, Push-view, push-view, push-refused, push-waits, push-in, Leave-view, leave-view, leave-refused, leave-out}
 use Rattle.ticket.proofs.Meanings.{bin-meaning, asker-exists, laid-out-means, line-meaning}
-use Rattle.ticket.proofs.Rules.{refused-alters-nothing, calls-keep-sizes, unfit-is-refused, layout-rule, ask-rule, push-rule, leave-rule, peek-rule, ahead-rule}
-use Rattle.ticket.proofs.States.{some-state, laid-out-alike, effective-decides}
+use Rattle.ticket.proofs.Rules.{refused-alters-nothing, calls-keep-sizes, unfit-is-refused, ask-rule, push-rule, leave-rule, peek-rule, ahead-rule}
 use Rattle.ticket.proofs.Effects.{ask-effect, fair-ask, push-waits-effect, fair-push-waits, push-in-effect, fair-push-in, leave-effect, fair-leave}
 
 -- what a granted call does, by the way that it goes
@@ -75,11 +78,12 @@ ticket-lawful =
     record {
       some-age = omega arith;
       few-nodes = λ n h. omega arith;
-      some-state = some-state;
-      layout-rule = layout-rule;
+      some-state = some-state nodes-for (record { sizes = record { sessions = 0; bins = 0 } }) None;
+      layout-rule = layout-rule ticket laid-out (λ s n m a. refl);
       laid-out = laid-out-means;
-      laid-out-alike = laid-out-alike;
-      effective-decides = effective-decides;
+      laid-out-alike =
+          layouts-alike ticket laid-out (λ s n m a. refl) (λ s t n m a. laid-alike (word-of a a) s t n m);
+      effective-decides = whole-state-decides ticket (λ s. refl);
       refused-alters-nothing = refused-alters-nothing;
       calls-keep-sizes = calls-keep-sizes;
       unfit-is-refused = unfit-is-refused;

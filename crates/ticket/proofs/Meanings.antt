@@ -10,15 +10,15 @@ use lib.ListN.{length}
 use Rattle.std.specs.Results.{isOk}
 use Rattle.std.specs.declared.option.Option.{Option}
 use Rattle.std.specs.declared.option.Option.the-variants.{Some, None}
-use Rattle.std.proofs.shelf.Lists.{getD-past}
-use Rattle.std.proofs.shelf.Tests.{eqb-true, eq-eqb, and-parts, and-from, and-left, true≢false, cases-lt}
+use Rattle.std.proofs.shelf.Tests.{eqb-true, eq-eqb, true≢false, cases-lt}
 use Rattle.bank.specs.Claims.{passes, found, at, at-stage, askers}
 use Rattle.bank.specs.Kind.{has}
 use Rattle.bank.specs.Laws.{Bin-meaning, Asker-exists, Laid-out, Line-meaning}
 use Rattle.bank.specs.Locks.{word-at, record-of}
-use Rattle.bank.specs.Outcome.{Outcome}
 use Rattle.bank.specs.declared.memory.Claim.{Claim}
-use Rattle.bank.proofs.Claims.{some-same, some-none, found-replicate, found-one, found-passes, asker-claim, claim-asker, inside-claim, nobody-inside, one-inside}
+use Rattle.bank.proofs.Askers.{one-bin, asker-session, asker-in-range}
+use Rattle.bank.proofs.Claims.{found-replicate, asker-claim, claim-asker, inside-claim, nobody-inside, one-inside}
+use Rattle.bank.proofs.Layouts.{layout-granted}
 use Rattle.ticket.specs.declared.Turn.{Turn}
 use Rattle.ticket.specs.Word.{served-of, after, past}
 use Rattle.ticket.specs.State.{State, sessions-of, bins-of, entered}
@@ -26,21 +26,8 @@ use Rattle.ticket.specs.Meaning.{inside, age-with, calm, holds, listed, holder
 use Rattle.ticket.specs.Calls.{laid-out, lays}
 use Rattle.ticket.proofs.Tickets.{forward, served-word, next-below, served-below, after-below, past-same, past-zero, forward-past}
 use Rattle.ticket.proofs.Holders.{has-holders, holders-has, holders-at}
-use Rattle.ticket.proofs.Invariant.{next-at, served-at, outstanding-at, fits, Invariant, lengths, laid-record, laid-word, laid-outstanding, laid-invariant}
-use Rattle.ticket.proofs.Views.{ticket, Layout-view, layout-view, layout-refused, layout-granted}
-
--- a record that is no claim at bin b passes no test of a stage there
-pub elsewhere :
-    (p : Turn → Bool) (b : ℕ) (r : Option (Claim Turn)) → passes (at b) r ≡ false → passes (at-stage p b) r ≡ false
-elsewhere p b None e = refl
-elsewhere p b (Some c) e = and-left (eqb (c .bin) b) (p (c .stage)) e
-
-claim-session : (s : State) (i : ℕ) (c : Claim Turn) → Invariant s → record-of s i ≡ Some c → i < sessions-of s
-claim-session s i c I e =
-    ⊎-elim
-    (λ l. let z = lengths s I in omega arith)
-    (λ l. some-none (record-of s i) c (getD-past (s .memory .records) i None l) e)
-    (cases-lt i (length (s .memory .records)))
+use Rattle.ticket.proofs.Invariant.{next-at, served-at, outstanding-at, fits, Invariant, laid-record, laid-word, laid-outstanding, laid-invariant}
+use Rattle.ticket.proofs.Views.{ticket, claim-in-range}
 
 -- only the holder of the ticket served is inside
 pub inside-one :
@@ -54,25 +41,23 @@ inside-one s b i c I e q r =
         I .unique j i d c f e (p ∙ sym q) (I .valid j b d f p .first h ∙ sym (I .valid i b c e q .first r))
 
 -- the holder of a ticket
+abbrev pub of-ticket : ℕ → Turn → Bool
+of-ticket t x = eqb (x .ticket) t
+
 pub holder-is :
     (s : State) (b t i : ℕ) (c : Claim Turn) → Invariant s → record-of s i ≡ Some c → c .bin ≡ b →
     c .stage .ticket ≡ t → found (holds b t) 0 (s .memory .records) ≡ Some i
-holder-is s b t i c I e q r =
-    let h = and-from (eqb (c .bin) b) (eqb (c .stage .ticket) t) (eq-eqb (c .bin) b q) (eq-eqb (c .stage .ticket) t r) in
-    found-one (holds b t) (s .memory .records) i c e h only
+holder-is s b t i c I e q r = one-inside (of-ticket t) s b i c e q (eq-eqb (c .stage .ticket) t r) only
   where
-    only : (j : ℕ) (d : Claim Turn) → record-of s j ≡ Some d → holds b t d ≡ true → j ≡ i
-    only j d f p =
-        let k = and-parts (eqb (d .bin) b) (eqb (d .stage .ticket) t) p in
-        I .unique j i d c f e (eqb-true (d .bin) b (k .0) ∙ sym q) (eqb-true (d .stage .ticket) t (k .1) ∙ sym r)
+    only : (j : ℕ) (d : Claim Turn) → record-of s j ≡ Some d → d .bin ≡ b → of-ticket t (d .stage) ≡ true → j ≡ i
+    only j d f p k = I .unique j i d c f e (p ∙ sym q) (eqb-true (d .stage .ticket) t k ∙ sym r)
 
 holder-claim :
     (s : State) (b t i : ℕ) → found (holds b t) 0 (s .memory .records) ≡ Some i →
     (c : Claim Turn) × (record-of s i ≡ Some c) × (c .bin ≡ b) × (c .stage .ticket ≡ t)
 holder-claim s b t i e =
-    let v = found-passes (holds b t) (s .memory .records) i e in
-    let k = and-parts (eqb (v .0 .bin) b) (eqb (v .0 .stage .ticket) t) (v .2) in
-    (v .0, v .1, eqb-true (v .0 .bin) b (k .0), eqb-true (v .0 .stage .ticket) t (k .1))
+    let w = inside-claim (of-ticket t) s b i e in
+    (w .0, w .1, w .2, eqb-true (w .0 .stage .ticket) t (w .3))
 
 -- a bin is calm exactly where no ticket is outstanding
 pub calm-outstanding : (s : State) (b : ℕ) → calm s b ≡ true → outstanding-at s b ≡ 0
@@ -112,18 +97,14 @@ bin-meaning s b I h =
       unasked-is-calm = λ n. outstanding-calm s b I h (unasked-outstanding s b I h n);
       inside-is-asker = λ i e. let w = inside-claim entered s b i e in (claim-asker s b i (w .0) (w .1) (w .2), refl);
       leaving-is-asker = λ i e. absurd (true≢false (sym e));
-      asks-at-one-bin =
-          λ i c p q.
-          let v = asker-claim s b i p in
-          let w = asker-claim s c i q in
-          sym (w .2) ∙ ap (λ (z : Claim Turn). z .bin) (some-same (w .0) (v .0) (sym (w .1) ∙ v .1)) ∙ v .2;
+      asks-at-one-bin = λ i c. one-bin s b c i;
     }
 
 pub asker-exists : (s : State) (i b : ℕ) → Invariant s → Asker-exists ticket s i b
 asker-exists s i b I =
     record {
-      session = λ p. let v = asker-claim s b i p in claim-session s i (v .0) I (v .1);
-      bin = λ p. let v = asker-claim s b i p in I .valid i b (v .0) (v .1) (v .2) .bin;
+      session = asker-session s 0 (sessions-of s) (bins-of s) b i (I .fit);
+      bin = asker-in-range s (bins-of s) b i (claim-in-range s i I);
     }
 
 laid-meaning : (s : State) (n m a : ℕ) → fits s n m → a < 4294967296 → Laid-out ticket (laid-out s n m a) n m a
@@ -143,11 +124,9 @@ laid-meaning s n m a p q =
     }
 
 pub laid-out-means : (s : State) (n m a : ℕ) → isOk (lays s n m a .answer) ≡ true → Laid-out ticket (lays s n m a .after) n m a
-laid-out-means s n m a h = go (layout-view s n m a)
-  where
-    go : Layout-view s n m a → Laid-out ticket (lays s n m a .after) n m a
-    go (layout-refused e) = absurd (true≢false (sym h ∙ ap (λ (o : Outcome (Unit {0}) State). isOk (o .answer)) e))
-    go (layout-granted p q e) = rw e (laid-meaning s n m a p q)
+laid-out-means s n m a h =
+    let g = layout-granted ticket laid-out (λ s n m a. refl) s n m a h in
+    rw (g .2) (laid-meaning s n m a (g .0) (g .1))
 
 -- LINES
 -- the holder of the ticket served is the first in line

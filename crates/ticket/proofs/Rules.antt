@@ -1,56 +1,53 @@
 -- When each call is refused and when it is granted, and what holds at any state.
 use mathlib.Core.Bool.{Bool, true, false, cond, not}
 use mathlib.Core.List.{List, _∷_, _++_}
-use mathlib.Core.Logic.{_⊎_, inl, inr, ⊎-elim}
 use mathlib.Core.Path.{_≡_, refl, sym, ap, _∙_}
 use Prim.Native.Nat.{ℕ, _≤_, _<_}
 use native.Mathlib.Omega.{arith}
-use lib.Dec.{ltb, eqb}
+use lib.Dec.{eqb}
 use lib.ListN.{length}
 use Rattle.std.specs.Results.{isOk, isErr}
 use Rattle.std.specs.declared.option.Option.{Option}
 use Rattle.std.specs.declared.option.Option.the-variants.{Some, None}
 use Rattle.std.specs.declared.result.Result.the-variants.{Ok, Err}
 use Rattle.std.proofs.shelf.Lists.{length-set}
-use Rattle.std.proofs.shelf.Tests.{eqb-true, eq-eqb, lt-ltb, le-ltb, and-parts, and-from, and-left, and-right, not-from-true, not-from-false, true≢false, false≢true, cases-bool}
+use Rattle.std.proofs.shelf.Tests.{lt-ltb, and-right, not-from-true, not-from-false, true≢false, false≢true}
 use Rattle.bank.specs.Claims.{passes, at-stage, askers}
 use Rattle.bank.specs.Kind.{joined}
-use Rattle.bank.specs.Laws.{Layout-rule, Refused-alters-nothing, Kept, Calls-keep-sizes, Unfit-is-refused, Ask-rule, Push-rule, Leave-rule, Peek-rule, Ahead-rule}
+use Rattle.bank.specs.Laws.{Refused-alters-nothing, Kept, Calls-keep-sizes, Unfit-is-refused, Ask-rule, Push-rule, Leave-rule, Peek-rule, Ahead-rule}
 use Rattle.bank.specs.Locks.{fitting, word-at, record-of}
 use Rattle.bank.specs.Outcome.{Outcome}
-use Rattle.bank.specs.Refusals.{bad-size, no-session, no-bin, bad-record, out-of-turn}
+use Rattle.bank.specs.Refusals.{no-session, no-bin, bad-record, out-of-turn}
 use Rattle.bank.specs.declared.answers.AskAnswer.{AskAnswer}
-use Rattle.bank.specs.declared.answers.AskAnswer.the-variants.{In as EntersAtOnce, NotYet}
 use Rattle.bank.specs.declared.answers.LeaveAnswer.{LeaveAnswer}
 use Rattle.bank.specs.declared.answers.PushAnswer.{PushAnswer}
 use Rattle.bank.specs.declared.memory.Claim.{Claim}
-use Rattle.bank.proofs.Admission.{admits-unfit, admits-no-session, admits-no-bin, session-unfit, session-missing, session-there, bin-unfit, bin-missing, bin-there, own-refused}
-use Rattle.bank.proofs.Claims.{passed, asker-claim, claim-asker, inside-claim}
+use Rattle.bank.proofs.Admission.{session-unfit, session-missing, session-there, bin-unfit, bin-missing, bin-there, own-unfit, own-no-session, own-no-bin}
+use Rattle.bank.proofs.Askers.{no-claim, not-at}
+use Rattle.bank.proofs.Claims.{untrue, at-stage-from, stage-claim, asker-claim, inside-claim}
+use Rattle.bank.proofs.Distinct.{asked-joins}
+use Rattle.bank.proofs.Itself.{kept-self}
+use Rattle.bank.proofs.Layouts.{layout-refused}
 use Rattle.ticket.specs.declared.Turn.{Turn}
 use Rattle.ticket.specs.Word.{past}
 use Rattle.ticket.specs.State.{State, sessions-of, bins-of, nodes-for, entered, not-entered, own-record, lawful-word}
 use Rattle.ticket.specs.Meaning.{inside, line}
-use Rattle.ticket.specs.Calls.{lays, asks-word, asks-own, asks, called, pushes-word, pushes-own, pushes, leaves-word, leaves-own, leaves, peeks-word, counts-word, counts-own, counts}
+use Rattle.ticket.specs.Calls.{laid-out, asks-word, asks-own, asks, called, pushes-word, pushes-own, pushes, leaves-word, leaves-own, leaves, peeks-word, counts-word, counts-own, counts}
 use Rattle.ticket.proofs.Tickets.{served-below, past-forward}
 use Rattle.ticket.proofs.Invariant.{next-at, served-at, Invariant, lengths, few-outstanding}
-use Rattle.ticket.proofs.Views.{ticket, reads-record, reads-word, Layout-view, layout-view, layout-refused, layout-granted, Ask-view, ask-view, ask-refused, ask-drawn, Push-view, push-view, push-refused, push-waits, push-in, Leave-view, leave-view, leave-refused, leave-out}
-use Rattle.ticket.proofs.Meanings.{elsewhere, inside-one, line-place}
+use Rattle.ticket.proofs.Views.{ticket, claim-in-range, reads-record, reads-word, Ask-view, ask-view, ask-refused, ask-drawn, Push-view, push-view, push-refused, push-waits, push-in, Leave-view, leave-view, leave-refused, leave-out}
+use Rattle.ticket.proofs.Meanings.{inside-one, line-place}
 
 -- AT ANY STATE
 pub refused-alters-nothing : (s : State) (i b : ℕ) → Refused-alters-nothing ticket s i b
 refused-alters-nothing s i b =
     record {
-      lays = λ n m a. layout n m a (layout-view s n m a);
+      lays = layout-refused ticket laid-out (λ s n m a. refl) s;
       asks = ask (ask-view s i b);
       pushes = push (push-view s i b);
       leaves = leave (leave-view s i b);
     }
   where
-    layout : (n m a : ℕ) → Layout-view s n m a → isErr (lays s n m a .answer) ≡ true → lays s n m a .after ≡ s
-    layout n m a (layout-refused e) h = ap (λ (o : Outcome (Unit {0}) State). o .after) e
-    layout n m a (layout-granted p q e) h =
-        absurd (false≢true (sym (ap (λ (o : Outcome (Unit {0}) State). isErr (o .answer)) e) ∙ h))
-
     ask : Ask-view s i b → isErr (asks s i b .answer) ≡ true → asks s i b .after ≡ s
     ask (ask-refused f e) h = ap (λ (o : Outcome AskAnswer State). o .after) e
     ask (ask-drawn U e) h = absurd (false≢true (sym (ap (λ (o : Outcome AskAnswer State). isErr (o .answer)) e) ∙ h))
@@ -66,9 +63,6 @@ refused-alters-nothing s i b =
     leave (leave-out c C n e) h =
         absurd (false≢true (sym (ap (λ (o : Outcome LeaveAnswer State). isErr (o .answer)) e) ∙ h))
 
-kept-self : (s : State) → Kept ticket s s
-kept-self s = record { sizes = refl; fit = refl }
-
 pub calls-keep-sizes : (s : State) (i b : ℕ) → Calls-keep-sizes ticket s i b
 calls-keep-sizes s i b =
     record {
@@ -78,16 +72,16 @@ calls-keep-sizes s i b =
     }
   where
     ask : Ask-view s i b → Kept ticket s (asks s i b .after)
-    ask (ask-refused f e) = rw e (kept-self s)
+    ask (ask-refused f e) = rw e (kept-self ticket s)
     ask (ask-drawn U e) = rw e (record { sizes = refl; fit = simp length-set })
 
     push : Push-view s i b → Kept ticket s (pushes s i b .after)
-    push (push-refused f e) = rw e (kept-self s)
-    push (push-waits c C t e) = rw e (kept-self s)
+    push (push-refused f e) = rw e (kept-self ticket s)
+    push (push-waits c C t e) = rw e (kept-self ticket s)
     push (push-in c C n t e) = rw e (record { sizes = refl; fit = simp length-set })
 
     leave : Leave-view s i b → Kept ticket s (leaves s i b .after)
-    leave (leave-refused f e) = rw e (kept-self s)
+    leave (leave-refused f e) = rw e (kept-self ticket s)
     leave (leave-out c C n e) = rw e (record { sizes = refl; fit = simp length-set })
 
 pub unfit-is-refused :
@@ -95,7 +89,7 @@ pub unfit-is-refused :
 unfit-is-refused s i b e =
     let n = sessions-of s in
     let m = bins-of s in
-    let own = own-refused 0 n m (s .memory) i b bad-size (admits-unfit 0 n m (s .memory) i b e) in
+    let own = own-unfit 0 n m (s .memory) i b e in
     record {
       asks = ap (λ o. asks-own o s i b .answer) own;
       pushes = ap (λ o. pushes-own o s i b .answer) own;
@@ -104,41 +98,10 @@ unfit-is-refused s i b e =
       counts = ap (λ a. counts-own a (record-of s i) s i) (session-unfit 0 n m (s .memory) i e);
     }
 
-pub layout-rule : (s : State) (n m a : ℕ) → Layout-rule ticket s n m a
-layout-rule s n m a =
-    record {
-      wrong-length = λ e. rw (and-left (fitting nodes-for s n m) (ltb a 4294967296) e);
-      wrong-age = λ h. rw (and-right (fitting nodes-for s n m) (ltb a 4294967296) (le-ltb a 4294967296 h));
-      granted = λ e h. rw (and-from (fitting nodes-for s n m) (ltb a 4294967296) e (lt-ltb a 4294967296 h));
-    }
-
 -- IN A REACHED STATE
--- a call of a session that there is not, or at a bin that there is not
-module _ (s : State) (i b : ℕ) (I : Invariant s) where
-  own-no-session : sessions-of s ≤ i → own-record s i b ≡ Err (no-session i)
-  own-no-session h =
-      let n = sessions-of s in
-      let m = bins-of s in
-      own-refused 0 n m (s .memory) i b (no-session i) (admits-no-session 0 n m (s .memory) i b (I .fit) h)
-
-  own-no-bin : i < sessions-of s → bins-of s ≤ b → own-record s i b ≡ Err (no-bin b)
-  own-no-bin h k =
-      let n = sessions-of s in
-      let m = bins-of s in
-      own-refused 0 n m (s .memory) i b (no-bin b) (admits-no-bin 0 n m (s .memory) i b (I .fit) h k)
-
 -- a session that asks at no bin has no claim
 unclaimed : (s : State) (i : ℕ) → Invariant s → ((c : ℕ) → c < bins-of s → askers s c i ≡ false) → record-of s i ≡ None
-unclaimed s i I h = go (record-of s i) refl
-  where
-    go : (r : Option (Claim Turn)) → record-of s i ≡ r → r ≡ None
-    go None e = refl
-    go (Some c) e = absurd (true≢false (sym (claim-asker s (c .bin) i c e refl) ∙ h (c .bin) (I .valid i (c .bin) c e refl .bin)))
-
--- both answers of an ask make the session an asker
-joined-both : (t : Bool) → joined (Ok (cond t EntersAtOnce NotYet)) ≡ true
-joined-both true = refl
-joined-both false = refl
+unclaimed s i I = no-claim s (bins-of s) i (claim-in-range s i I)
 
 -- calls of a session and at a bin that there are
 module _ (s : State) (i b : ℕ) (I : Invariant s) (hi : i < sessions-of s) (hb : b < bins-of s) where
@@ -185,8 +148,8 @@ module _ (s : State) (i b : ℕ) (I : Invariant s) (hi : i < sessions-of s) (hb 
 pub ask-rule : (s : State) (i b : ℕ) → Invariant s → Ask-rule ticket s i b
 ask-rule s i b I =
     record {
-      no-session = λ h. ap (λ o. asks-own o s i b .answer) (own-no-session s i b I h);
-      no-bin = λ h k. ap (λ o. asks-own o s i b .answer) (own-no-bin s i b I h k);
+      no-session = λ h. rw (own-no-session 0 (sessions-of s) (bins-of s) (s .memory) i b (I .fit) h);
+      no-bin = λ h k. rw (own-no-bin 0 (sessions-of s) (bins-of s) (s .memory) i b (I .fit) h k);
       asker =
           λ h k c l e.
           let v = asker-claim s c i e in
@@ -194,15 +157,15 @@ ask-rule s i b I =
       granted =
           λ h k n.
           ap (λ (o : Outcome AskAnswer State). joined (o .answer)) (ask-reads s i b I h k None (unclaimed s i I n))
-          ∙ joined-both (eqb (next-at s b) (served-at s b));
+          ∙ asked-joins (eqb (next-at s b) (served-at s b));
     }
 
 pub push-rule : (s : State) (i b : ℕ) → Invariant s → Push-rule ticket s i b
 push-rule s i b I =
     record {
-      no-session = λ h. ap (λ o. pushes-own o s i b .answer) (own-no-session s i b I h);
-      no-bin = λ h k. ap (λ o. pushes-own o s i b .answer) (own-no-bin s i b I h k);
-      stranger = λ h k e. push-out-of-turn s i b I h k (record-of s i) refl (elsewhere not-entered b (record-of s i) e);
+      no-session = λ h. rw (own-no-session 0 (sessions-of s) (bins-of s) (s .memory) i b (I .fit) h);
+      no-bin = λ h k. rw (own-no-bin 0 (sessions-of s) (bins-of s) (s .memory) i b (I .fit) h k);
+      stranger = λ h k e. push-out-of-turn s i b I h k (record-of s i) refl (not-at not-entered (record-of s i) b e);
       inside =
           λ h k e.
           let w = inside-claim entered s b i e in
@@ -218,35 +181,28 @@ push-rule s i b I =
         (c : Claim Turn) → record-of s i ≡ Some c → c .bin ≡ b → (inside s b ≡ Some i → ⊥) →
         at-stage not-entered b c ≡ true
     waits c e q n =
-        ⊎-elim
-        (λ p. absurd (n (inside-one s b i c I e q p)))
-        (λ p. and-from (eqb (c .bin) b) (not (c .stage .inside)) (eq-eqb (c .bin) b q) (not-from-false (c .stage .inside) p))
-        (cases-bool (c .stage .inside))
+        let p = untrue (c .stage .inside) (λ p. n (inside-one s b i c I e q p)) in
+        at-stage-from not-entered b c q (not-from-false (c .stage .inside) p)
 
 pub leave-rule : (s : State) (i b : ℕ) → Invariant s → Leave-rule ticket s i b
 leave-rule s i b I =
     record {
-      no-session = λ h. ap (λ o. leaves-own o s i b .answer) (own-no-session s i b I h);
-      no-bin = λ h k. ap (λ o. leaves-own o s i b .answer) (own-no-bin s i b I h k);
+      no-session = λ h. rw (own-no-session 0 (sessions-of s) (bins-of s) (s .memory) i b (I .fit) h);
+      no-bin = λ h k. rw (own-no-bin 0 (sessions-of s) (bins-of s) (s .memory) i b (I .fit) h k);
       not-inside = λ h k n. leave-out-of-turn s i b I h k (record-of s i) refl (not-entered-here n);
       granted =
           λ h k e.
           let w = inside-claim entered s b i e in
-          let q = eq-eqb (w .0 .bin) b (w .2) in
-          leave-granted s i b I h k (w .0) (w .1) (and-from (eqb (w .0 .bin) b) (w .0 .stage .inside) q (w .3));
+          leave-granted s i b I h k (w .0) (w .1) (at-stage-from entered b (w .0) (w .2) (w .3));
     }
   where
     not-entered-here : (inside s b ≡ Some i → ⊥) → passes (at-stage entered b) (record-of s i) ≡ false
-    not-entered-here n = go (cases-bool (passes (at-stage entered b) (record-of s i)))
-      where
-        go :
-            (passes (at-stage entered b) (record-of s i) ≡ true) ⊎ (passes (at-stage entered b) (record-of s i) ≡ false) →
-            passes (at-stage entered b) (record-of s i) ≡ false
-        go (inl p) =
-            let v = passed (at-stage entered b) (record-of s i) p in
-            let k = and-parts (eqb (v .0 .bin) b) (v .0 .stage .inside) (v .2) in
-            absurd (n (inside-one s b i (v .0) I (v .1) (eqb-true (v .0 .bin) b (k .0)) (k .1)))
-        go (inr p) = p
+    not-entered-here n =
+        untrue
+        (passes (at-stage entered b) (record-of s i))
+        (λ p.
+        let w = stage-claim entered b (record-of s i) p in
+        n (inside-one s b i (w .0) I (w .1) (w .2) (w .3)))
 
 pub peek-rule : (s : State) (b : ℕ) → Invariant s → Peek-rule ticket s b
 peek-rule s b I =

@@ -1,26 +1,28 @@
--- The ways that each call may go, and that every reached state has the invariant.
-use mathlib.Core.Bool.{Bool, true, false, _&&_, not}
+-- The ways that an ask, a push and a leave may go, and that every reached state has the invariant.
+use mathlib.Core.Bool.{Bool, true, false}
 use mathlib.Core.Logic.{_⊎_, inl, inr}
-use mathlib.Core.Path.{_≡_, refl, sym, ap, _∙_}
+use mathlib.Core.Path.{_≡_, refl, ap, _∙_}
 use Prim.Native.Nat.{ℕ, _<_}
-use lib.Dec.{ltb, eqb}
+use lib.Dec.{eqb}
 use Rattle.std.specs.Results.{isOk}
 use Rattle.std.specs.declared.option.Option.{Option}
 use Rattle.std.specs.declared.option.Option.the-variants.{Some, None}
 use Rattle.std.specs.declared.result.Result.{Result}
 use Rattle.std.specs.declared.result.Result.the-variants.{Ok, Err}
-use Rattle.std.proofs.shelf.Tests.{eqb-true, eqb-false, ltb-true, lt-ltb, le-leb, and-parts, not-true, true≢false}
+use Rattle.std.proofs.shelf.Tests.{eqb-true, eqb-false, lt-ltb, le-leb, not-true}
 use Rattle.bank.specs.Claims as claims
 use Rattle.bank.specs.Claims.{at-stage, claim}
 use Rattle.bank.specs.Kind.{Kind, kind, Reached, after-layout, after-ask, after-push, after-leave}
 use Rattle.bank.specs.Locks.{fitting, with-bank, word-at, record-of, with-record}
 use Rattle.bank.specs.Memory.{in-range}
-use Rattle.bank.specs.Outcome.{Outcome, refused, granted}
-use Rattle.bank.specs.Refusals.{bad-size, bad-word, out-of-turn}
+use Rattle.bank.specs.Outcome.{refused, granted}
+use Rattle.bank.specs.Refusals.{bad-word, out-of-turn}
 use Rattle.bank.specs.declared.answers.PushAnswer.the-variants.{Waits, In}
 use Rattle.bank.specs.declared.memory.Claim.{Claim}
 use Rattle.bank.specs.declared.refusals.Fault.{Fault}
 use Rattle.bank.proofs.Admission.{owned, own-there}
+use Rattle.bank.proofs.Claims.{at-stage-parts}
+use Rattle.bank.proofs.Layouts.{layout-granted}
 use Rattle.ticket.specs.declared.Turn.{Turn}
 use Rattle.ticket.specs.Word as words
 use Rattle.ticket.specs.Word.{outstanding, lawful}
@@ -28,7 +30,7 @@ use Rattle.ticket.specs.State.{State, sessions-of, bins-of, nodes-for, turn, e
 use Rattle.ticket.specs.Meaning as meaning
 use Rattle.ticket.specs.Calls as calls
 use Rattle.ticket.specs.Calls.{laid-out, lays, drawn, asks-word, asks-own, asks, pushes-word, pushes-own, pushes, served-next, leaves-word, leaves-own, leaves}
-use Rattle.ticket.proofs.Invariant.{next-at, served-at, fits, Invariant, few-outstanding, laid-invariant, Unclaimed, ask-invariant, Claimed, push-invariant, leave-invariant}
+use Rattle.ticket.proofs.Invariant.{next-at, served-at, Invariant, few-outstanding, laid-invariant, Unclaimed, ask-invariant, Claimed, push-invariant, leave-invariant}
 
 abbrev pub ticket : Kind State
 ticket =
@@ -59,7 +61,7 @@ ticket =
     calls.counts
 
 -- what a call reads where the invariant holds
-claim-in-range : (s : State) (i : ℕ) → Invariant s → in-range (bins-of s) (record-of s i) ≡ true
+pub claim-in-range : (s : State) (i : ℕ) → Invariant s → in-range (bins-of s) (record-of s i) ≡ true
 claim-in-range s i I = go (record-of s i) refl
   where
     go : (r : Option (Claim Turn)) → record-of s i ≡ r → in-range (bins-of s) r ≡ true
@@ -95,20 +97,6 @@ claimed :
 claimed s i b c e q =
     let o = owned 0 (sessions-of s) (bins-of s) (s .memory) i b (Some c) e in
     record { session = o .admitted .session; bin = o .admitted .bin; read = o .read; here = q }
-
--- LAYOUT
-pub data Layout-view (s : State) (n m a : ℕ) : Type 0 where
-  layout-refused : lays s n m a ≡ refused s bad-size → Layout-view s n m a
-  layout-granted : fits s n m → a < 4294967296 → lays s n m a ≡ granted (laid-out s n m a) tt → Layout-view s n m a
-
-pub layout-view : (s : State) (n m a : ℕ) → Layout-view s n m a
-layout-view s n m a = go (fitting nodes-for s n m && ltb a 4294967296) refl
-  where
-    go : (t : Bool) → (fitting nodes-for s n m && ltb a 4294967296) ≡ t → Layout-view s n m a
-    go true e =
-        let p = and-parts (fitting nodes-for s n m) (ltb a 4294967296) e in
-        layout-granted (p .0) (ltb-true a 4294967296 (p .1)) (rw e)
-    go false e = layout-refused (rw e)
 
 -- ASK
 pub data Ask-view (s : State) (i b : ℕ) : Type 0 where
@@ -162,8 +150,8 @@ push-view s i b = go (own-record s i b) refl
         (t : Bool) → at-stage not-entered b c ≡ t → Push-view s i b
     inner c p e false f = push-refused (out-of-turn i) (e ∙ rw f)
     inner c p e true f =
-        let k = and-parts (eqb (c .bin) b) (not (c .stage .inside)) f in
-        let C = claimed s i b c p (eqb-true (c .bin) b (k .0)) in
+        let k = at-stage-parts not-entered b c f in
+        let C = claimed s i b c p (k .0) in
         waiting c C (not-true (c .stage .inside) (k .1)) (e ∙ rw f) (read-cases s b)
 
     go : (o : Result (Option (Claim Turn)) Fault) → own-record s i b ≡ o → Push-view s i b
@@ -192,8 +180,8 @@ leave-view s i b = go (own-record s i b) refl
         (t : Bool) → at-stage entered b c ≡ t → Leave-view s i b
     inner c p e false f = leave-refused (out-of-turn i) (e ∙ rw f)
     inner c p e true f =
-        let k = and-parts (eqb (c .bin) b) (c .stage .inside) f in
-        inside c (claimed s i b c p (eqb-true (c .bin) b (k .0))) (k .1) (e ∙ rw f) (read-cases s b)
+        let k = at-stage-parts entered b c f in
+        inside c (claimed s i b c p (k .0)) (k .1) (e ∙ rw f) (read-cases s b)
 
     go : (o : Result (Option (Claim Turn)) Fault) → own-record s i b ≡ o → Leave-view s i b
     go (Err f) p = leave-refused f (ap (λ o. leaves-own o s i b) p)
@@ -202,11 +190,9 @@ leave-view s i b = go (own-record s i b) refl
 
 -- EVERY REACHED STATE: each call keeps the invariant
 lays-invariant : (s : State) (n m a : ℕ) → isOk (lays s n m a .answer) ≡ true → Invariant (lays s n m a .after)
-lays-invariant s n m a h = go (layout-view s n m a)
-  where
-    go : Layout-view s n m a → Invariant (lays s n m a .after)
-    go (layout-refused e) = absurd (true≢false (sym h ∙ ap (λ (o : Outcome (Unit {0}) State). isOk (o .answer)) e))
-    go (layout-granted p q e) = rw e (laid-invariant s n m a p q)
+lays-invariant s n m a h =
+    let g = layout-granted ticket laid-out (λ s n m a. refl) s n m a h in
+    rw (g .2) (laid-invariant s n m a (g .0) (g .1))
 
 asks-invariant : (s : State) (i b : ℕ) → Invariant s → Invariant (asks s i b .after)
 asks-invariant s i b I = go (ask-view s i b)

@@ -1,0 +1,12 @@
+// Worked figures, proved: what the definitions of the calls compute is what is written here.
+ghost use mathlib.Core.List.{[], _∷_};
+ghost use mathlib.Core.Path.{_≡_};
+ghost use Rattle.figures.specs.Computed.{computed};
+
+// The ticket kind at starting age 4294967295: the lock word after one ask, and after the leave.
+pub fn figures() -> [u64; 2]
+    ensures computed { λ r. ⌜ r ≡ computed ⌝ }
+    ensures written { λ r. ⌜ r ≡ 0x00000000FFFFFFFF ∷ (0 ∷ []) ⌝ }
+{
+    [0x00000000FFFFFFFF, 0]
+}
