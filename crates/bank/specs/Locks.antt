@@ -1,6 +1,7 @@
 -- The state of a bank: the bank with the memory that it is lent.
 use mathlib.Core.Bool.{Bool}
 use Prim.Native.Nat.{ℕ}
+use denote.Ref.{RefT, now}
 use lib.ListN.{getD, set, length, replicate}
 use Rattle.std.specs.declared.option.Option.{Option}
 use Rattle.std.specs.declared.option.Option.the-variants.{None}
@@ -13,6 +14,10 @@ pub record Locks (B R : Type 0) : Type 0 where
 
 abbrev pub locks : {B R : Type 0} → B → LockMemory R → Locks B R
 locks b m = record { bank = b; memory = lent m }
+
+-- the same of what is lent to a call
+abbrev pub state : {B R : Type 0} → RefT B → RefT (LockMemory R) → Locks B R
+state b m = locks (now b) (now m)
 
 -- the memory has the lengths told for so many sessions and bins
 abbrev pub fitting : {B R : Type 0} → (ℕ → ℕ) → Locks B R → ℕ → ℕ → Bool

@@ -4,7 +4,7 @@ ghost use Rattle.bank.specs.Calls.{answer-of, state-after, lengths-told};
 ghost use Rattle.bank.specs.Kind.{Reached};
 ghost use Rattle.bank.specs.KindOf.{kind-of};
 ghost use Rattle.bank.specs.Laws.{Lawful};
-ghost use Rattle.bank.specs.Locks.{locks};
+ghost use Rattle.bank.specs.Locks.{state};
 use super::Bank;
 use super::answers::Answer;
 use super::answers::Call;
@@ -34,8 +34,8 @@ fn dispatch<B: Bank>(
     session: usize,
     bin: usize,
 ) -> Result<Answer, Fault>
-    ensures answer { λ r. ⌜ r ≡ answer-of (kind-of B·Bank) call (locks (now (bank .entry)) (now (memory .entry))) session bin ⌝ }
-    ensures after { λ r. ⌜ locks (now (bank .exit)) (now (memory .exit)) ≡ state-after (kind-of B·Bank) call (locks (now (bank .entry)) (now (memory .entry))) session bin ⌝ }
+    ensures answer { λ r. ⌜ r ≡ answer-of (kind-of B·Bank) call (state (bank .entry) (memory .entry)) session bin ⌝ }
+    ensures after { λ r. ⌜ state (bank .exit) (memory .exit) ≡ state-after (kind-of B·Bank) call (state (bank .entry) (memory .entry)) session bin ⌝ }
 {
     match call {
         Call::Ask => Ok(Answer::Asked(bank.ask(memory, session, bin)?)),
@@ -52,9 +52,9 @@ pub fn carry_out<B: Bank>(
     session: usize,
     bin: usize,
 ) -> Result<Answer, Fault>
-    ensures answer { λ r. ⌜ r ≡ answer-of (kind-of B·Bank) call (locks (now (bank .entry)) (now (memory .entry))) session bin ⌝ }
-    ensures after { λ r. ⌜ locks (now (bank .exit)) (now (memory .exit)) ≡ state-after (kind-of B·Bank) call (locks (now (bank .entry)) (now (memory .entry))) session bin ⌝ }
-    ensures reached { λ r. ⌜ (Reached (kind-of B·Bank) (locks (now (bank .entry)) (now (memory .entry))) → Reached (kind-of B·Bank) (locks (now (bank .exit)) (now (memory .exit)))) ⌝ }
+    ensures answer { λ r. ⌜ r ≡ answer-of (kind-of B·Bank) call (state (bank .entry) (memory .entry)) session bin ⌝ }
+    ensures after { λ r. ⌜ state (bank .exit) (memory .exit) ≡ state-after (kind-of B·Bank) call (state (bank .entry) (memory .entry)) session bin ⌝ }
+    ensures reached { λ r. ⌜ (Reached (kind-of B·Bank) (state (bank .entry) (memory .entry)) → Reached (kind-of B·Bank) (state (bank .exit) (memory .exit))) ⌝ }
     ensures laws { λ r. ⌜ Lawful (kind-of B·Bank) ⌝ }
 {
     dispatch(bank, memory, call, session, bin)

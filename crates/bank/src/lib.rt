@@ -11,7 +11,7 @@ ghost use Rattle.bank.specs.declared.answers.PushAnswer.{PushAnswer};
 ghost use Rattle.bank.specs.declared.memory.Sizes.{Sizes};
 ghost use Rattle.bank.specs.declared.refusals.Fault.{Fault};
 ghost use Rattle.bank.specs.Outcome.{Outcome};
-ghost use Rattle.bank.specs.Locks.{Locks, locks, fitting, with-bank};
+ghost use Rattle.bank.specs.Locks.{Locks, state, fitting, with-bank};
 ghost use Rattle.bank.specs.Kind.{kind};
 ghost use Rattle.bank.specs.Laws.{Lawful};
 
@@ -139,8 +139,8 @@ pub trait Bank: Sized {
         sizes: Sizes,
         start: u64,
     ) -> Result<(), Fault>
-        ensures answer { λ r. ⌜ r ≡ lays (locks (now (self .entry)) (now (memory .entry))) (sizes .sessions) (sizes .bins) start .answer ⌝ }
-        ensures after { λ r. ⌜ locks (now (self .exit)) (now (memory .exit)) ≡ lays (locks (now (self .entry)) (now (memory .entry))) (sizes .sessions) (sizes .bins) start .after ⌝ };
+        ensures answer { λ r. ⌜ r ≡ lays (state (self .entry) (memory .entry)) (sizes .sessions) (sizes .bins) start .answer ⌝ }
+        ensures after { λ r. ⌜ state (self .exit) (memory .exit) ≡ lays (state (self .entry) (memory .entry)) (sizes .sessions) (sizes .bins) start .after ⌝ };
 
     // Makes a session an asker of a bin.
     fn ask(
@@ -149,8 +149,8 @@ pub trait Bank: Sized {
         session: usize,
         bin: usize,
     ) -> Result<AskAnswer, Fault>
-        ensures answer { λ r. ⌜ r ≡ asks (locks (now (self .entry)) (now (memory .entry))) session bin .answer ⌝ }
-        ensures after { λ r. ⌜ locks (now (self .exit)) (now (memory .exit)) ≡ asks (locks (now (self .entry)) (now (memory .entry))) session bin .after ⌝ };
+        ensures answer { λ r. ⌜ r ≡ asks (state (self .entry) (memory .entry)) session bin .answer ⌝ }
+        ensures after { λ r. ⌜ state (self .exit) (memory .exit) ≡ asks (state (self .entry) (memory .entry)) session bin .after ⌝ };
 
     // Advances an asker that is not inside.
     fn push(
@@ -159,8 +159,8 @@ pub trait Bank: Sized {
         session: usize,
         bin: usize,
     ) -> Result<PushAnswer, Fault>
-        ensures answer { λ r. ⌜ r ≡ pushes (locks (now (self .entry)) (now (memory .entry))) session bin .answer ⌝ }
-        ensures after { λ r. ⌜ locks (now (self .exit)) (now (memory .exit)) ≡ pushes (locks (now (self .entry)) (now (memory .entry))) session bin .after ⌝ };
+        ensures answer { λ r. ⌜ r ≡ pushes (state (self .entry) (memory .entry)) session bin .answer ⌝ }
+        ensures after { λ r. ⌜ state (self .exit) (memory .exit) ≡ pushes (state (self .entry) (memory .entry)) session bin .after ⌝ };
 
     // Takes the session inside a bin from there.
     fn leave(
@@ -169,12 +169,12 @@ pub trait Bank: Sized {
         session: usize,
         bin: usize,
     ) -> Result<LeaveAnswer, Fault>
-        ensures answer { λ r. ⌜ r ≡ leaves (locks (now (self .entry)) (now (memory .entry))) session bin .answer ⌝ }
-        ensures after { λ r. ⌜ locks (now (self .exit)) (now (memory .exit)) ≡ leaves (locks (now (self .entry)) (now (memory .entry))) session bin .after ⌝ };
+        ensures answer { λ r. ⌜ r ≡ leaves (state (self .entry) (memory .entry)) session bin .answer ⌝ }
+        ensures after { λ r. ⌜ state (self .exit) (memory .exit) ≡ leaves (state (self .entry) (memory .entry)) session bin .after ⌝ };
 
     // The mark of a bin and whether it is calm.
     fn peek(&self, memory: &LockMemory<Self::Record>, bin: usize) -> Result<(u64, bool), Fault>
-        ensures { λ r. ⌜ r ≡ peeks (locks (now (self .entry)) (now (memory .entry))) bin ⌝ };
+        ensures { λ r. ⌜ r ≡ peeks (state (self .entry) (memory .entry)) bin ⌝ };
 
     // How many stand before a session in its line; none for a session in no line.
     fn ahead(
@@ -182,5 +182,5 @@ pub trait Bank: Sized {
         memory: &LockMemory<Self::Record>,
         session: usize,
     ) -> Result<Option<usize>, Fault>
-        ensures { λ r. ⌜ r ≡ counts (locks (now (self .entry)) (now (memory .entry))) session ⌝ };
+        ensures { λ r. ⌜ r ≡ counts (state (self .entry) (memory .entry)) session ⌝ };
 }

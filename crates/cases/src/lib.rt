@@ -6,4 +6,6 @@ mod line_cases;
 #[cfg(test)]
 mod memory_cases;
 #[cfg(test)]
+mod refusal_cases;
+#[cfg(test)]
 mod ticket_cases;

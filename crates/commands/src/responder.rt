@@ -1,7 +1,7 @@
 // Carries out a command on a bank that is laid out.
 ghost use mathlib.Core.Path.{_≡_};
 ghost use Rattle.bank.specs.KindOf.{kind-of};
-ghost use Rattle.bank.specs.Locks.{locks};
+ghost use Rattle.bank.specs.Locks.{state};
 ghost use Rattle.commands.specs.Responses.{reply-of, state-after};
 use super::replies::Reply;
 use super::syntax::Command;
@@ -11,8 +11,8 @@ use bank::carry_out;
 
 // The reply to a command, and what the command leaves. A command that a bank does not allow alters nothing.
 pub fn respond<B: Bank>(bank: &mut B, memory: &mut LockMemory<B::Record>, command: Command) -> Reply
-    ensures reply { λ r. ⌜ r ≡ reply-of (kind-of B·Bank) (locks (now (bank .entry)) (now (memory .entry))) command ⌝ }
-    ensures after { λ r. ⌜ locks (now (bank .exit)) (now (memory .exit)) ≡ state-after (kind-of B·Bank) (locks (now (bank .entry)) (now (memory .entry))) command ⌝ }
+    ensures reply { λ r. ⌜ r ≡ reply-of (kind-of B·Bank) (state (bank .entry) (memory .entry)) command ⌝ }
+    ensures after { λ r. ⌜ state (bank .exit) (memory .exit) ≡ state-after (kind-of B·Bank) (state (bank .entry) (memory .entry)) command ⌝ }
 {
     match command {
         Command::Call(call, session, bin) => match carry_out(bank, memory, call, session, bin) {

@@ -6,12 +6,16 @@ use std::test::*;
 
 type Script<'a> = &'a [(&'a str, &'a str)];
 
+fn replies(rt: &LibcRuntime, site: &mut Site, line: &[u8], expected: &str) -> Result<(), Fail> {
+    let reply = answer(rt.alloc(), site, line);
+    let text = reply.to_string(rt.alloc())?;
+    check_eq(text.as_str(), expected)
+}
+
 fn play(rt: &LibcRuntime, script: Script) -> Result<(), Fail> {
     let mut site = Site::Empty;
     for (line, expected) in script {
-        let reply = answer(rt.alloc(), &mut site, line.as_bytes());
-        let text = reply.to_string(rt.alloc())?;
-        check_eq(text.as_str(), *expected).note(line)?;
+        replies(rt, &mut site, line.as_bytes(), expected).note(line)?;
     }
     Ok(())
 }
@@ -201,4 +205,13 @@ fn refusals_by_number_layer_and_place(rt: LibcRuntime) -> Result<(), Fail> {
             ("word 0", "0000000100000002"),
         ],
     )
+}
+
+#[test]
+fn bytes_that_are_no_text_are_unreadable(rt: LibcRuntime) -> Result<(), Fail> {
+    let mut site = Site::Empty;
+    replies(&rt, &mut site, b"bank ticket 1 1 0\r\n", "laid")?;
+    replies(&rt, &mut site, b"ask \xff 0\n", "unreadable")?;
+    replies(&rt, &mut site, b"ask 0 0\r", "unreadable")?;
+    replies(&rt, &mut site, b"word 0\n", "0000000000000000")
 }

@@ -3,7 +3,7 @@ ghost use mathlib.Core.Bool.{true};
 ghost use mathlib.Core.Path.{_≡_};
 ghost use Prim.Native.Nat.{_*_, _+_, _/_, _%_, _<_};
 ghost use Rattle.std.specs.Of.Vec.{vec-len};
-ghost use Rattle.bank.specs.Locks.{locks};
+ghost use Rattle.bank.specs.Locks.{state};
 ghost use Rattle.ticket.specs.Word as tickets;
 ghost use Rattle.std.specs.declared.option.Option.the-variants.{Some};
 ghost use Rattle.bank.specs.Claims.{claim, askers as asking};
@@ -88,7 +88,7 @@ impl Ticket {
         bin: usize,
     ) -> Result<u64, Fault>
         requires { ⌜ bin < vec-len (now memory .words) ⌝ }
-        ensures { λ r. ⌜ r ≡ lawful-word (locks (now (self .entry)) (now (memory .entry))) bin ⌝ }
+        ensures { λ r. ⌜ r ≡ lawful-word (state (self .entry) (memory .entry)) bin ⌝ }
     {
         let word = memory.words[bin];
         if !is_lawful(self.sizes.sessions, word) {
