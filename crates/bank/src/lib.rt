@@ -73,40 +73,49 @@ pub trait Bank: Sized {
     // What the kind notes of a session.
     type Record;
 
-    // What a state means. Sessions and bins go by their numbers; specs/Kind.antt says what each of these tells.
+    // The two sizes that layout gave.
     ghost extent: { Self → Sizes };
 
+    // How many nodes the kind wants for so many sessions.
     ghost nodesfor: { ℕ → ℕ };
 
+    // The bank without what it only notes down.
     ghost effective: { Self → Self };
 
+    // M: an age is below it.
     ghost modulus: { ℕ };
 
+    // At a bin: who has asked and is not yet out, who of them has left, and who is inside.
     ghost askers: { Locks Self Self·Record → ℕ → ℕ → Bool };
 
     ghost leaving: { Locks Self Self·Record → ℕ → ℕ → Bool };
 
     ghost inside: { Locks Self Self·Record → ℕ → Option ℕ };
 
+    // At a bin: its entries so far, going round at M; whether readers are admitted; the number that readers compare.
     ghost age: { Locks Self Self·Record → ℕ → ℕ };
 
     ghost calm: { Locks Self Self·Record → ℕ → Bool };
 
     ghost mark: { Locks Self Self·Record → ℕ → ℕ };
 
+    // What a mark tells by itself: whether its bin is calm and, where it is, the age.
     ghost calmof: { ℕ → Bool };
 
     ghost ageof: { ℕ → ℕ };
 
-    // For kinds that say they are fair: the line, the pushes still needed, and how many at most after ask and leave.
+    // Whether the kind is fair. A fair kind has a line at each bin, its askers in the order of their asks.
     ghost fair: { Bool };
 
     ghost line: { Locks Self Self·Record → ℕ → List ℕ };
 
+    // The pushes other than waits that a session may still need: at most A after its ask, at most R after its leave.
     ghost needed: { Locks Self Self·Record → ℕ → ℕ };
 
+    // A.
     ghost entrypushes: { ℕ };
 
+    // R.
     ghost exitpushes: { ℕ };
 
     // What each call answers and leaves, for good and bad arguments and any memory.

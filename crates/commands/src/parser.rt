@@ -1,7 +1,9 @@
 // From a line to a command. A line that is no command gives none.
 ghost use mathlib.Core.Path.{_≡_};
+ghost use mathlib.Core.List.{_∷_};
 ghost use Rattle.std.specs.declared.option.Option.the-variants.{Some};
-ghost use Rattle.commands.specs.Syntax.{Named, setup-of, bin-words-of};
+ghost use Rattle.commands.specs.Syntax.{texts, kind-text, End, One, Two, Laid, Four, Works, Reads, Read-as};
+ghost use Rattle.commands.specs.Readers.{Named, verb-text, job-text, place-text, setup-of, bin-words-of, Change, Worded, Led, Pokes};
 ghost use Rattle.commands.specs.Numbers.{digit-of, with-digit, read-on, well-formed, lock-word, number as decimal-number, word32 as word, positive-amount, negative-amount, amount as signed-amount};
 use super::syntax::BinWords;
 use super::syntax::Command;
@@ -127,7 +129,7 @@ fn lock_word(text: &str) -> Option<u64>
 }
 
 fn kind_name(text: &str) -> Option<KindName>
-    ensures { λ r. ⌜ Named (now (text .entry)) r ⌝ }
+    ensures { λ r. ⌜ Named kind-text (now (text .entry)) r ⌝ }
 {
     match text {
         "queuing" => Some(KindName::Queuing),
@@ -159,56 +161,294 @@ fn bin_words(article: &str, quantity: &str, reserved: &str, stamp: &str) -> Opti
     })
 }
 
-fn table_command(words: &[&str]) -> Option<Command> {
+// The first word of a line.
+#[derive(Clone, Copy)]
+enum Verb {
+    Layout,
+    Bank,
+    Load,
+    Open,
+    Begin,
+    Step,
+    Collect,
+    Ahead,
+    Peek,
+    Close,
+    Read,
+    Call(Call),
+    Word,
+    Node,
+    Poke,
+}
+
+// What `begin` begins.
+#[derive(Clone, Copy)]
+enum JobName {
+    Lookup,
+    Set,
+    Adjust,
+}
+
+// Where `poke` writes.
+#[derive(Clone, Copy)]
+enum Place {
+    Word,
+    Bin,
+}
+
+// What `poke` writes.
+#[derive(Clone, Copy)]
+enum Poke {
+    Word(usize, u64),
+    Bin(usize, BinWords),
+}
+
+fn verb_name(text: &str) -> Option<Verb>
+    ensures { λ r. ⌜ Named verb-text (now (text .entry)) r ⌝ }
+{
+    match text {
+        "layout" => Some(Verb::Layout),
+        "bank" => Some(Verb::Bank),
+        "load" => Some(Verb::Load),
+        "open" => Some(Verb::Open),
+        "begin" => Some(Verb::Begin),
+        "step" => Some(Verb::Step),
+        "collect" => Some(Verb::Collect),
+        "ahead" => Some(Verb::Ahead),
+        "peek" => Some(Verb::Peek),
+        "close" => Some(Verb::Close),
+        "read" => Some(Verb::Read),
+        "ask" => Some(Verb::Call(Call::Ask)),
+        "push" => Some(Verb::Call(Call::Push)),
+        "leave" => Some(Verb::Call(Call::Leave)),
+        "word" => Some(Verb::Word),
+        "node" => Some(Verb::Node),
+        "poke" => Some(Verb::Poke),
+        _ => None,
+    }
+}
+
+fn job_name(text: &str) -> Option<JobName>
+    ensures { λ r. ⌜ Named job-text (now (text .entry)) r ⌝ }
+{
+    match text {
+        "lookup" => Some(JobName::Lookup),
+        "set" => Some(JobName::Set),
+        "adjust" => Some(JobName::Adjust),
+        _ => None,
+    }
+}
+
+fn place_name(text: &str) -> Option<Place>
+    ensures { λ r. ⌜ Named place-text (now (text .entry)) r ⌝ }
+{
+    match text {
+        "word" => Some(Place::Word),
+        "bin" => Some(Place::Bin),
+        _ => None,
+    }
+}
+
+// No more words.
+fn end(words: &[&str]) -> Option<()>
+    ensures { λ r. ⌜ Reads (λ u. End) (texts (now (words .entry))) r ⌝ }
+{
     match words {
-        ["layout", k, s, b, a] => Some(Command::Layout(setup(kind_name(k), s, b, a)?)),
-        ["load", b, a, q, r, t] => Some(Command::Load(index(b)?, bin_words(a, q, r, t)?)),
-        ["open"] => Some(Command::Open),
-        ["step", s] => Some(Command::Step(index(s)?)),
-        ["collect", s] => Some(Command::Collect(index(s)?)),
-        ["close"] => Some(Command::Close),
-        ["read", b] => Some(Command::Read(index(b)?)),
-        ["begin", s, "lookup", b] => Some(Command::Begin(index(s)?, index(b)?, Job::Lookup)),
-        ["begin", s, "set", b, a, q, r, t] => {
-            let job = Job::Set(bin_words(a, q, r, t)?);
-            Some(Command::Begin(index(s)?, index(b)?, job))
+        [] => Some(()),
+        _ => None,
+    }
+}
+
+// A session or a bin, and no more.
+fn one(words: &[&str]) -> Option<usize>
+    ensures { λ r. ⌜ Reads One (texts (now (words .entry))) r ⌝ }
+{
+    match words {
+        [number] => index(number),
+        _ => None,
+    }
+}
+
+// A session and a bin, and no more.
+fn two(words: &[&str]) -> Option<(usize, usize)>
+    ensures { λ r. ⌜ Reads Two (texts (now (words .entry))) r ⌝ }
+{
+    match words {
+        [session, bin] => Some((index(session)?, index(bin)?)),
+        _ => None,
+    }
+}
+
+// KIND SESSIONS BINS AGE, and no more.
+fn laid(words: &[&str]) -> Option<Setup>
+    ensures { λ r. ⌜ Reads Laid (texts (now (words .entry))) r ⌝ }
+{
+    match words {
+        [kind, sessions, bins, age] => setup(kind_name(kind), sessions, bins, age),
+        _ => None,
+    }
+}
+
+// The four words of a bin, and no more.
+fn four(words: &[&str]) -> Option<BinWords>
+    ensures { λ r. ⌜ Reads Four (texts (now (words .entry))) r ⌝ }
+{
+    match words {
+        [article, quantity, reserved, stamp] => bin_words(article, quantity, reserved, stamp),
+        _ => None,
+    }
+}
+
+// AMOUNT STAMP, and no more.
+fn change(words: &[&str]) -> Option<(i32, u32)>
+    ensures { λ r. ⌜ Reads Change (texts (now (words .entry))) r ⌝ }
+{
+    match words {
+        [sum, stamp] => Some((amount(sum)?, word32(stamp)?)),
+        _ => None,
+    }
+}
+
+// BIN WORD, and no more.
+fn worded(words: &[&str]) -> Option<(usize, u64)>
+    ensures { λ r. ⌜ Reads Worded (texts (now (words .entry))) r ⌝ }
+{
+    match words {
+        [bin, word] => Some((index(bin)?, lock_word(word)?)),
+        _ => None,
+    }
+}
+
+// A bin and its four words.
+fn loaded(words: &[&str]) -> Option<(usize, BinWords)>
+    ensures { λ r. ⌜ Reads (Led Four) (texts (now (words .entry))) r ⌝ }
+{
+    match words {
+        [bin, rest @ ..] => Some((index(bin)?, four(rest)?)),
+        _ => None,
+    }
+}
+
+// A bin and its change.
+fn adjusted(words: &[&str]) -> Option<(usize, (i32, u32))>
+    ensures { λ r. ⌜ Reads (Led Change) (texts (now (words .entry))) r ⌝ }
+{
+    match words {
+        [bin, rest @ ..] => Some((index(bin)?, change(rest)?)),
+        _ => None,
+    }
+}
+
+// What stands behind the name of a job.
+fn job_of(name: JobName, words: &[&str]) -> Option<(usize, Job)>
+    ensures { λ r. ⌜ Reads Works (job-text name ∷ texts (now (words .entry))) r ⌝ }
+{
+    match name {
+        JobName::Lookup => Some((one(words)?, Job::Lookup)),
+        JobName::Set => {
+            let (bin, words) = loaded(words)?;
+            Some((bin, Job::Set(words)))
         }
-        ["begin", s, "adjust", b, a, t] => {
-            let job = Job::Adjust(amount(a)?, word32(t)?);
-            Some(Command::Begin(index(s)?, index(b)?, job))
+        JobName::Adjust => {
+            let (bin, (sum, stamp)) = adjusted(words)?;
+            Some((bin, Job::Adjust(sum, stamp)))
         }
-        _ => None,
     }
 }
 
-fn bank_command(words: &[&str]) -> Option<Command> {
+// A job, by its name.
+fn job(words: &[&str]) -> Option<(usize, Job)>
+    ensures { λ r. ⌜ Reads Works (texts (now (words .entry))) r ⌝ }
+{
     match words {
-        ["bank", k, s, b, a] => Some(Command::Bank(setup(kind_name(k), s, b, a)?)),
-        ["ask", s, b] => Some(Command::Call(Call::Ask, index(s)?, index(b)?)),
-        ["push", s, b] => Some(Command::Call(Call::Push, index(s)?, index(b)?)),
-        ["leave", s, b] => Some(Command::Call(Call::Leave, index(s)?, index(b)?)),
-        ["ahead", s] => Some(Command::Ahead(index(s)?)),
-        ["peek", b] => Some(Command::Peek(index(b)?)),
+        [name, rest @ ..] => job_of(job_name(name)?, rest),
         _ => None,
     }
 }
 
-fn memory_command(words: &[&str]) -> Option<Command> {
+// A session and its job.
+fn begun(words: &[&str]) -> Option<(usize, (usize, Job))>
+    ensures { λ r. ⌜ Reads (Led Works) (texts (now (words .entry))) r ⌝ }
+{
     match words {
-        ["word", b] => Some(Command::Word(index(b)?)),
-        ["node", s] => Some(Command::Node(index(s)?)),
-        ["poke", "word", b, w] => Some(Command::PokeWord(index(b)?, lock_word(w)?)),
-        ["poke", "bin", b, a, q, r, t] => Some(Command::PokeBin(index(b)?, bin_words(a, q, r, t)?)),
+        [session, rest @ ..] => Some((index(session)?, job(rest)?)),
         _ => None,
     }
 }
 
-pub fn parse(words: &[&str]) -> Option<Command> {
-    if let Some(command) = table_command(words) {
-        return Some(command);
+// What stands behind the name of a place.
+fn poke_of(place: Place, words: &[&str]) -> Option<Poke>
+    ensures { λ r. ⌜ Reads Pokes (place-text place ∷ texts (now (words .entry))) r ⌝ }
+{
+    match place {
+        Place::Word => {
+            let (bin, word) = worded(words)?;
+            Some(Poke::Word(bin, word))
+        }
+        Place::Bin => {
+            let (bin, words) = loaded(words)?;
+            Some(Poke::Bin(bin, words))
+        }
     }
-    if let Some(command) = bank_command(words) {
-        return Some(command);
+}
+
+// A poke, by its place.
+fn poked(words: &[&str]) -> Option<Poke>
+    ensures { λ r. ⌜ Reads Pokes (texts (now (words .entry))) r ⌝ }
+{
+    match words {
+        [place, rest @ ..] => poke_of(place_name(place)?, rest),
+        _ => None,
     }
-    memory_command(words)
+}
+
+// What stands behind a verb.
+fn command(verb: Verb, words: &[&str]) -> Option<Command>
+    ensures { λ r. ⌜ Read-as (verb-text verb ∷ texts (now (words .entry))) r ⌝ }
+{
+    match verb {
+        Verb::Layout => Some(Command::Layout(laid(words)?)),
+        Verb::Bank => Some(Command::Bank(laid(words)?)),
+        Verb::Load => {
+            let (bin, words) = loaded(words)?;
+            Some(Command::Load(bin, words))
+        }
+        Verb::Open => {
+            end(words)?;
+            Some(Command::Open)
+        }
+        Verb::Begin => {
+            let (session, (bin, job)) = begun(words)?;
+            Some(Command::Begin(session, bin, job))
+        }
+        Verb::Step => Some(Command::Step(one(words)?)),
+        Verb::Collect => Some(Command::Collect(one(words)?)),
+        Verb::Ahead => Some(Command::Ahead(one(words)?)),
+        Verb::Peek => Some(Command::Peek(one(words)?)),
+        Verb::Read => Some(Command::Read(one(words)?)),
+        Verb::Word => Some(Command::Word(one(words)?)),
+        Verb::Node => Some(Command::Node(one(words)?)),
+        Verb::Close => {
+            end(words)?;
+            Some(Command::Close)
+        }
+        Verb::Call(call) => {
+            let (session, bin) = two(words)?;
+            Some(Command::Call(call, session, bin))
+        }
+        Verb::Poke => match poked(words)? {
+            Poke::Word(bin, word) => Some(Command::PokeWord(bin, word)),
+            Poke::Bin(bin, words) => Some(Command::PokeBin(bin, words)),
+        },
+    }
+}
+
+// The command that a line's words spell, if they spell one.
+pub fn parse(words: &[&str]) -> Option<Command>
+    ensures { λ r. ⌜ Read-as (texts (now (words .entry))) r ⌝ }
+{
+    match words {
+        [first, rest @ ..] => command(verb_name(first)?, rest),
+        _ => None,
+    }
 }
