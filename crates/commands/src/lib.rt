@@ -8,6 +8,8 @@ pub use parser::parse;
 pub use replies::Reply;
 pub use replies::ReplyDisplay;
 pub use responder::respond;
+pub use syntax::BinWords;
 pub use syntax::Command;
+pub use syntax::Job;
 pub use syntax::KindName;
 pub use syntax::Setup;

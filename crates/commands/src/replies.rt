@@ -1,4 +1,5 @@
 // What the console answers to a line.
+ghost use Rattle.commands.specs.Text.{reply-text};
 use bank::Answer;
 use bank::AnswerDisplay;
 use bank::Fault;
@@ -20,6 +21,8 @@ pub enum Reply {
 }
 
 pub impl fmt::Display for Reply as ReplyDisplay {
+    ghost shown = { reply-text };
+
     fn fmt<W: fmt::Write>(&self, f: &mut fmt::Formatter<W>) -> fmt::Result {
         match *self {
             Reply::Laid => write!(f, "laid"),

@@ -1,9 +1,7 @@
 // What is laid out at present: nothing, or a bank of one kind with its memory.
-ghost use Rattle.std.specs.Vec.{made};
-ghost use Rattle.bank.specs.Kind.{Reached};
 ghost use Rattle.bank.specs.KindOf.{kind-of};
-ghost use Rattle.bank.specs.Laws.{Laid-out};
 ghost use Rattle.bank.specs.Locks.{locks};
+ghost use Rattle.console.specs.Sites.{Carries-out, Made, New, Responds, Starts, Starts-over};
 use bank::Bank;
 use bank::Claim;
 use bank::ClaimClone;
@@ -25,7 +23,7 @@ use ticket::TicketDefault;
 use ticket::Turn;
 
 #[derive(Drop)]
-pub struct Rig<B, R> {
+pub struct LaidBank<B, R> {
     bank: B,
     memory: LockMemory<R>,
 }
@@ -33,8 +31,8 @@ pub struct Rig<B, R> {
 #[derive(Drop)]
 pub enum Site {
     Empty,
-    Ticket(Rig<Ticket, Option<Claim<Turn>>>),
-    Central(Rig<Central, Option<Claim<Stage>>>),
+    Ticket(LaidBank<Ticket, Option<Claim<Turn>>>),
+    Central(LaidBank<Central, Option<Claim<Stage>>>),
 }
 
 // A bank laid out on memory of its own, so that all laws hold of it, or why there is none.
@@ -43,10 +41,10 @@ fn lay_out<B: Bank + Drop>(
     mut bank: B,
     record: B::Record,
     setup: Setup,
-) -> Result<Rig<B, B::Record>, Reply>
+) -> Result<LaidBank<B, B::Record>, Reply>
 where
     B::Record: Copy,
-    ensures { λ r. ⌜ made r (λ rig. Reached (kind-of B·Bank) (locks (rig .bank) (rig .memory)) × Laid-out (kind-of B·Bank) (locks (rig .bank) (rig .memory)) (setup .sizes .sessions) (setup .sizes .bins) (setup .start)) ⌝ }
+    ensures { λ r. ⌜ Made (λ held. Starts (kind-of B·Bank) setup (locks (held .bank) (held .memory))) r ⌝ }
 {
     let lengths = match lengths::<B>(setup.sizes) {
         Ok(lengths) => lengths,
@@ -56,12 +54,14 @@ where
         return Err(Reply::NoMemory);
     };
     match bank.layout(&mut memory, setup.sizes, setup.start) {
-        Ok(()) => Ok(Rig { bank, memory }),
+        Ok(()) => Ok(LaidBank { bank, memory }),
         Err(fault) => Err(Reply::Refused(fault)),
     }
 }
 
-fn new_site(heap: Global, setup: Setup) -> Result<Site, Reply> {
+fn new_site(heap: Global, setup: Setup) -> Result<Site, Reply>
+    ensures { λ r. ⌜ Made (New (setup .kind) setup) r ⌝ }
+{
     match setup.kind {
         KindName::Ticket => Ok(Site::Ticket(lay_out(heap, Ticket::default(), None, setup)?)),
         KindName::Central => Ok(Site::Central(lay_out(heap, Central::default(), None, setup)?)),
@@ -71,7 +71,9 @@ fn new_site(heap: Global, setup: Setup) -> Result<Site, Reply> {
 
 impl Site {
     // Starts over, or leaves what was there.
-    fn start_over(&mut self, heap: Global, setup: Setup) -> Reply {
+    fn start_over(&mut self, heap: Global, setup: Setup) -> Reply
+        ensures { λ r. ⌜ Starts-over setup (now (self .entry)) r (now (self .exit)) ⌝ }
+    {
         match new_site(heap, setup) {
             Ok(site) => {
                 *self = site;
@@ -81,14 +83,23 @@ impl Site {
         }
     }
 
-    pub fn respond(&mut self, heap: Global, command: Command) -> Reply {
-        if let Command::Bank(setup) = command {
-            return self.start_over(heap, setup);
+    pub fn respond(&mut self, heap: Global, command: Command) -> Reply
+        ensures { λ r. ⌜ Carries-out (now (self .entry)) command r (now (self .exit)) ⌝ }
+    {
+        match command {
+            Command::Bank(setup) => self.start_over(heap, setup),
+            _ => self.ask_bank(command),
         }
+    }
+
+    // What the bank that is laid out replies; not now if there is none.
+    fn ask_bank(&mut self, command: Command) -> Reply
+        ensures { λ r. ⌜ Responds (now (self .entry)) command r (now (self .exit)) ⌝ }
+    {
         match self {
             Site::Empty => Reply::NotNow,
-            Site::Ticket(rig) => respond(&mut rig.bank, &mut rig.memory, command),
-            Site::Central(rig) => respond(&mut rig.bank, &mut rig.memory, command),
+            Site::Ticket(held) => respond(&mut held.bank, &mut held.memory, command),
+            Site::Central(held) => respond(&mut held.bank, &mut held.memory, command),
         }
     }
 }

@@ -145,7 +145,13 @@ fn central_swaps_only_the_word_it_saw(rt: LibcRuntime) -> Result<(), Fail> {
         &rt,
         &[
             ("bank central 3 2 9223372036854775806", "laid"),
+            ("ask 3 0", "refused 2 kind S3"),
+            ("push 0 2", "refused 3 kind B2"),
+            ("leave 0 1", "refused 10 kind S0"),
+            ("peek 2", "refused 3 kind B2"),
+            ("ahead 3", "refused 2 kind S3"),
             ("ask 0 1", "not yet"),
+            ("ask 0 0", "refused 10 kind S0"),
             ("ask 1 1", "not yet"),
             ("push 0 1", "in"),
             ("word 1", "FFFFFFFFFFFFFFFE"),
@@ -210,8 +216,10 @@ fn refusals_by_number_layer_and_place(rt: LibcRuntime) -> Result<(), Fail> {
 #[test]
 fn bytes_that_are_no_text_are_unreadable(rt: LibcRuntime) -> Result<(), Fail> {
     let mut site = Site::Empty;
-    replies(&rt, &mut site, b"bank ticket 1 1 0\r\n", "laid")?;
-    replies(&rt, &mut site, b"ask \xff 0\n", "unreadable")?;
+    replies(&rt, &mut site, b"bank ticket 1 1 0", "laid")?;
+    replies(&rt, &mut site, b"ask \xff 0", "unreadable")?;
     replies(&rt, &mut site, b"ask 0 0\r", "unreadable")?;
-    replies(&rt, &mut site, b"word 0\n", "0000000000000000")
+    replies(&rt, &mut site, b"ask\t0 0", "unreadable")?;
+    replies(&rt, &mut site, b"ask 0 0\0", "unreadable")?;
+    replies(&rt, &mut site, b"word 0", "0000000000000000")
 }
