@@ -23,13 +23,12 @@ fn claim(bin: usize, ticket: u32, inside: bool) -> Option<Claim<Turn>> {
     Some(Claim { bin, stage })
 }
 
-// What a call of session 0 at bin 0 is refused by, of two bins, with this word at bin 0 and this record.
-fn refusal(
+// A bank of three sessions and two bins with this word at bin 0 and this record of session 0.
+fn damaged(
     rt: &LibcRuntime,
     word: u64,
     record: Option<Claim<Turn>>,
-    call: Call,
-) -> Result<Option<Fault>, Fail> {
+) -> Result<(Ticket, LockMemory<Option<Claim<Turn>>>), Fail> {
     let lengths = Lengths {
         words: 2,
         records: 3,
@@ -45,6 +44,17 @@ fn refusal(
     check(memory.words.len() > 0 && memory.records.len() > 0)?;
     memory.words[0] = word;
     memory.records[0] = record;
+    Ok((bank, memory))
+}
+
+// What a call of session 0 at bin 0 is refused by.
+fn refusal(
+    rt: &LibcRuntime,
+    word: u64,
+    record: Option<Claim<Turn>>,
+    call: Call,
+) -> Result<Option<Fault>, Fail> {
+    let (mut bank, mut memory) = damaged(rt, word, record)?;
     Ok(carry_out(&mut bank, &mut memory, call, 0, 0).err())
 }
 
@@ -74,6 +84,25 @@ fn own_record_before_the_word_before_the_turn(rt: LibcRuntime) -> Result<(), Fai
     ];
     for (word, record, call, expected) in cases {
         check_eq(refusal(&rt, word, record, call)?, expected)?;
+    }
+    Ok(())
+}
+
+#[test]
+fn ahead_reads_the_record_then_the_word_and_then_counts(rt: LibcRuntime) -> Result<(), Fail> {
+    let bad_record = Err(Fault::of_kind(Reason::OutOfRange, Place::Session(0)));
+    let bad_word = Err(Fault::of_kind(Reason::OutOfRange, Place::Bin(0)));
+    let cases = [
+        (0x0000000400000000, claim(2, 0, false), bad_record),
+        (0x0000000400000000, claim(0, 0, false), bad_word),
+        (0x0000000300000000, claim(0, 3, false), bad_record),
+        (0x0000000300000000, claim(0, 2, false), Ok(Some(2))),
+        (0x0000000300000000, claim(0, 0, true), Ok(Some(0))),
+        (0x0000000400000000, None, Ok(None)),
+    ];
+    for (word, record, expected) in cases {
+        let (bank, memory) = damaged(&rt, word, record)?;
+        check_eq(bank.ahead(&memory, 0), expected)?;
     }
     Ok(())
 }
