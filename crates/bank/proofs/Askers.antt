@@ -15,6 +15,7 @@ use Rattle.bank.specs.Claims.{passes, at, at-stage, askers, inside}
 use Rattle.bank.specs.Locks.{Locks, record-of}
 use Rattle.bank.specs.Memory.{has-lengths, in-range}
 use Rattle.bank.specs.declared.memory.Claim.{Claim}
+use Rattle.bank.specs.declared.memory.Sizes.{Sizes}
 use Rattle.bank.proofs.Admission.{sized}
 use Rattle.bank.proofs.Claims.{some-same, some-none, passes-set, found-set, write-cases, asker-claim, claim-asker}
 
@@ -28,11 +29,11 @@ one-bin {B} {T} s b c i p q =
 
 -- an asker's session and bin are there
 pub asker-session :
-    {B T : Type 0} (s : Locks B (Option (Claim T))) (told n m b i : ℕ) → has-lengths told n m (s .memory) ≡ true →
-    askers s b i ≡ true → i < n
-asker-session s told n m b i h p =
+    {B T : Type 0} (s : Locks B (Option (Claim T))) (told : ℕ) (z : Sizes) (b i : ℕ) →
+    has-lengths told z (s .memory) ≡ true → askers s b i ≡ true → i < z .sessions
+asker-session s told z b i h p =
     let v = asker-claim s b i p in
-    let z = sized told n m (s .memory) h in
+    let y = sized told z (s .memory) h in
     ⊎-elim
     (λ l. omega arith)
     (λ l. some-none (record-of s i) (v .0) (getD-past (s .memory .records) i None l) (v .1))

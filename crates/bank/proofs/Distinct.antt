@@ -1,11 +1,10 @@
--- The answers of a call are distinct, and both answers of an ask make the session an asker.
+-- The answers of a call are distinct.
 use mathlib.Core.Bool.{Bool, true, false, cond}
 use mathlib.Core.Path.{_≡_, refl}
 use Prim.Native.Nat.{ℕ}
 use native.Mathlib.Omega.{arith}
 use Rattle.std.specs.declared.result.Result.{Result}
 use Rattle.std.specs.declared.result.Result.the-variants.{Ok, Err}
-use Rattle.bank.specs.Kind.{joined}
 use Rattle.bank.specs.declared.answers.AskAnswer.{AskAnswer}
 use Rattle.bank.specs.declared.answers.AskAnswer.the-variants.{In as EntersAtOnce, NotYet}
 use Rattle.bank.specs.declared.answers.LeaveAnswer.{LeaveAnswer}
@@ -36,7 +35,3 @@ asked-in false e = not-yet-in e
 pub asked-not-yet : (t : Bool) → _≡_ {A = Result AskAnswer Fault} (Ok (cond t EntersAtOnce NotYet)) (Ok NotYet) → t ≡ false
 asked-not-yet true e = let z : _≡_ {A = ℕ} 0 1 = cc in absurd (omega arith)
 asked-not-yet false e = refl
-
-pub asked-joins : (t : Bool) → joined (Ok (cond t EntersAtOnce NotYet)) ≡ true
-asked-joins true = refl
-asked-joins false = refl

@@ -6,3 +6,4 @@ pub mod Steps
 pub mod Itself
 pub mod Layouts
 pub mod Distinct
+pub mod Marks

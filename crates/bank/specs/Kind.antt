@@ -19,21 +19,22 @@ use Rattle.bank.specs.declared.refusals.Fault.{Fault}
 
 -- A state is a bank with its memory. Sessions and bins go by their numbers.
 pub record Kind (S : Type 0) : Type 0 where
-  -- the two sizes that layout gave
+  -- the sizes that layout gave
   pub sizes : S → Sizes
-  -- how many nodes are told for so many sessions
-  pub nodes : ℕ → ℕ
-  -- whether the memory has the lengths told for so many sessions and bins
-  pub fits : S → ℕ → ℕ → Bool
+  -- how many nodes are told for these sizes
+  pub nodes : Sizes → ℕ
+  -- whether the memory has the lengths told for these sizes
+  pub fits : S → Sizes → Bool
   -- the state without what the kind only notes down
   pub effective : S → S
-  -- an age is below this
+  -- M: an age is below it
   pub modulus : ℕ
   -- at a bin: the sessions that have asked and are not yet out; those of them that have left; the one inside
   pub askers : S → ℕ → ℕ → Bool
   pub leaving : S → ℕ → ℕ → Bool
   pub inside : S → ℕ → Option ℕ
-  -- at a bin: the entries so far, going round; whether readers are admitted; the number that readers compare
+  -- at a bin: the starting age plus the entries since layout, modulo M; whether readers are admitted; the number that
+  -- readers compare
   pub age : S → ℕ → ℕ
   pub calm : S → ℕ → Bool
   pub mark : S → ℕ → ℕ
@@ -43,12 +44,14 @@ pub record Kind (S : Type 0) : Type 0 where
   -- a fair kind has lines: the askers of a bin in the order of their asks
   pub fair : Bool
   pub line : S → ℕ → List ℕ
-  -- the pushes other than waits that a session may still need; at most so many after its ask, and after its leave
+  -- the pushes other than waits that a session may still need
   pub needed : S → ℕ → ℕ
+  -- A: the pushes that a session may need at most after its ask
   pub entry-pushes : ℕ
+  -- R: the pushes that a session may need at most after its leave
   pub exit-pushes : ℕ
   -- the calls
-  pub lays : S → ℕ → ℕ → ℕ → Outcome (Unit {0}) S
+  pub lays : S → Sizes → ℕ → Outcome (Unit {0}) S
   pub asks : S → ℕ → ℕ → Outcome AskAnswer S
   pub pushes : S → ℕ → ℕ → Outcome PushAnswer S
   pub leaves : S → ℕ → ℕ → Outcome LeaveAnswer S
@@ -57,10 +60,10 @@ pub record Kind (S : Type 0) : Type 0 where
 
 -- The kind of these parts, in the order of the record's fields.
 abbrev pub kind :
-    {S : Type 0} (sizes : S → Sizes) (nodes : ℕ → ℕ) (fits : S → ℕ → ℕ → Bool) (effective : S → S) (modulus : ℕ)
+    {S : Type 0} (sizes : S → Sizes) (nodes : Sizes → ℕ) (fits : S → Sizes → Bool) (effective : S → S) (modulus : ℕ)
     (askers leaving : S → ℕ → ℕ → Bool) (inside : S → ℕ → Option ℕ) (age : S → ℕ → ℕ) (calm : S → ℕ → Bool)
     (mark : S → ℕ → ℕ) (calm-of : ℕ → Bool) (age-of : ℕ → ℕ) (fair : Bool) (line : S → ℕ → List ℕ)
-    (needed : S → ℕ → ℕ) (entry-pushes exit-pushes : ℕ) (lays : S → ℕ → ℕ → ℕ → Outcome (Unit {0}) S)
+    (needed : S → ℕ → ℕ) (entry-pushes exit-pushes : ℕ) (lays : S → Sizes → ℕ → Outcome (Unit {0}) S)
     (asks : S → ℕ → ℕ → Outcome AskAnswer S) (pushes : S → ℕ → ℕ → Outcome PushAnswer S)
     (leaves : S → ℕ → ℕ → Outcome LeaveAnswer S) (peeks : S → ℕ → Result (ℕ × Bool) Fault)
     (counts : S → ℕ → Result (Option ℕ) Fault) →
@@ -95,7 +98,7 @@ kind sizes nodes fits effective modulus askers leaving inside age calm mark calm
 
 -- a state that layout made and only the kind's calls changed
 pub data Reached {S : Type 0} (k : Kind S) : S → Type 0 where
-  after-layout : (s : S) (n m a : ℕ) → isOk (k .lays s n m a .answer) ≡ true → Reached k (k .lays s n m a .after)
+  after-layout : (s : S) (z : Sizes) (a : ℕ) → isOk (k .lays s z a .answer) ≡ true → Reached k (k .lays s z a .after)
   after-ask : (s : S) (i b : ℕ) → Reached k s → Reached k (k .asks s i b .after)
   after-push : (s : S) (i b : ℕ) → Reached k s → Reached k (k .pushes s i b .after)
   after-leave : (s : S) (i b : ℕ) → Reached k s → Reached k (k .leaves s i b .after)
@@ -120,7 +123,7 @@ module _ {S : Type 0} (k : Kind S) where
 
   -- the memory has the lengths told for the sizes that the bank holds
   abbrev pub fit : S → Bool
-  fit s = k .fits s (sessions s) (bins s)
+  fit s = k .fits s (k .sizes s)
 
   -- t means at bin b what s does
   pub record Same (s t : S) (b : ℕ) : Type 0 where

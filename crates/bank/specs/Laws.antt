@@ -14,6 +14,7 @@ use Rattle.bank.specs.Refusals.{bad-size, no-session, no-bin, out-of-turn}
 use Rattle.bank.specs.declared.answers.AskAnswer.the-variants.{In as EntersAtOnce, NotYet}
 use Rattle.bank.specs.declared.answers.LeaveAnswer.the-variants.{Moved as StillLeaving, Out as OutAtOnce}
 use Rattle.bank.specs.declared.answers.PushAnswer.the-variants.{Waits, Moved, In, Out}
+use Rattle.bank.specs.declared.memory.Sizes.{Sizes}
 
 module _ {S : Type 0} (k : Kind S) where
   -- What a reached state s tells of a bin b that there is.
@@ -35,23 +36,22 @@ module _ {S : Type 0} (k : Kind S) where
 
   -- LAYOUT, at any state: granted exactly where the memory has the lengths told for sizes within their limits, and the
   -- age is below the modulus.
-  pub record Layout-rule (s : S) (n m a : ℕ) : Type 0 where
-    pub wrong-length : k .fits s n m ≡ false → k .lays s n m a .answer ≡ Err bad-size
-    pub wrong-age : k .modulus ≤ a → k .lays s n m a .answer ≡ Err bad-size
-    pub granted : k .fits s n m ≡ true → a < k .modulus → isOk (k .lays s n m a .answer) ≡ true
+  pub record Layout-rule (s : S) (z : Sizes) (a : ℕ) : Type 0 where
+    pub wrong-length : k .fits s z ≡ false → k .lays s z a .answer ≡ Err bad-size
+    pub wrong-age : k .modulus ≤ a → k .lays s z a .answer ≡ Err bad-size
+    pub granted : k .fits s z ≡ true → a < k .modulus → isOk (k .lays s z a .answer) ≡ true
 
   -- What a granted layout leaves.
-  pub record Laid-out (s : S) (n m a : ℕ) : Type 0 where
-    pub sessions : sessions k s ≡ n
-    pub bins : bins k s ≡ m
+  pub record Laid-out (s : S) (z : Sizes) (a : ℕ) : Type 0 where
+    pub sizes : k .sizes s ≡ z
     pub fit : fit k s ≡ true
-    pub no-askers : (b i : ℕ) → b < m → k .askers s b i ≡ false
-    pub starting-age : (b : ℕ) → b < m → k .age s b ≡ a
-    pub empty-line : (b : ℕ) → b < m → k .line s b ≡ []
+    pub no-askers : (b i : ℕ) → b < z .bins → k .askers s b i ≡ false
+    pub starting-age : (b : ℕ) → b < z .bins → k .age s b ≡ a
+    pub empty-line : (b : ℕ) → b < z .bins → k .line s b ≡ []
 
   -- REFUSALS, at any state: a refused call alters nothing.
   pub record Refused-alters-nothing (s : S) (i b : ℕ) : Type 0 where
-    pub lays : (n m a : ℕ) → isErr (k .lays s n m a .answer) ≡ true → k .lays s n m a .after ≡ s
+    pub lays : (z : Sizes) (a : ℕ) → isErr (k .lays s z a .answer) ≡ true → k .lays s z a .after ≡ s
     pub asks : isErr (k .asks s i b .answer) ≡ true → k .asks s i b .after ≡ s
     pub pushes : isErr (k .pushes s i b .answer) ≡ true → k .pushes s i b .after ≡ s
     pub leaves : isErr (k .leaves s i b .answer) ≡ true → k .leaves s i b .after ≡ s
@@ -66,7 +66,7 @@ module _ {S : Type 0} (k : Kind S) where
     pub pushes : Kept s (k .pushes s i b .after)
     pub leaves : Kept s (k .leaves s i b .after)
 
-  -- At any state whose memory has other lengths, every call is refused by 1.
+  -- At any state whose memory has other lengths, every call but layout is refused by 1.
   pub record Unfit-is-refused (s : S) (i b : ℕ) : Type 0 where
     pub asks : k .asks s i b .answer ≡ Err bad-size
     pub pushes : k .pushes s i b .answer ≡ Err bad-size
@@ -74,7 +74,8 @@ module _ {S : Type 0} (k : Kind S) where
     pub peeks : k .peeks s b ≡ Err bad-size
     pub counts : k .counts s i ≡ Err bad-size
 
-  -- In a reached state each call is refused by 2, 3 or 10 exactly as told, never by 1 or 9, and is granted otherwise.
+  -- In a reached state each call but layout is refused by 2, 3 or 10 exactly as told, and is granted otherwise: no call
+  -- but layout is refused by 1 or 9.
   pub record Ask-rule (s : S) (i b : ℕ) : Type 0 where
     pub no-session : sessions k s ≤ i → k .asks s i b .answer ≡ Err (no-session i)
     pub no-bin : i < sessions k s → bins k s ≤ b → k .asks s i b .answer ≡ Err (no-bin b)
@@ -83,7 +84,7 @@ module _ {S : Type 0} (k : Kind S) where
         (c : ℕ) → c < bins k s → k .askers s c i ≡ true → k .asks s i b .answer ≡ Err (out-of-turn i)
     pub granted :
         i < sessions k s → b < bins k s →
-        ((c : ℕ) → c < bins k s → k .askers s c i ≡ false) → joined (k .asks s i b .answer) ≡ true
+        ((c : ℕ) → c < bins k s → k .askers s c i ≡ false) → isOk (k .asks s i b .answer) ≡ true
 
   pub record Push-rule (s : S) (i b : ℕ) : Type 0 where
     pub no-session : sessions k s ≤ i → k .pushes s i b .answer ≡ Err (no-session i)
@@ -155,6 +156,16 @@ module _ {S : Type 0} (k : Kind S) where
         k .leaves s i b .answer ≡ Ok StillLeaving → (j : ℕ) → k .leaving t b j ≡ (eqb j i || k .leaving s b j)
     pub other-bins-keep-all : (c : ℕ) → c < bins k s → (c ≡ b → ⊥) → Same k s t c
 
+  -- A MARK changes only in an ask, a push or a leave at its bin, and only in one that is granted and does not wait.
+  pub record Mark-rule (s : S) (i b c : ℕ) : Type 0 where
+    pub asks-elsewhere : (c ≡ b → ⊥) → k .mark (k .asks s i b .after) c ≡ k .mark s c
+    pub asks-refused : isErr (k .asks s i b .answer) ≡ true → k .mark (k .asks s i b .after) c ≡ k .mark s c
+    pub pushes-elsewhere : (c ≡ b → ⊥) → k .mark (k .pushes s i b .after) c ≡ k .mark s c
+    pub pushes-refused : isErr (k .pushes s i b .answer) ≡ true → k .mark (k .pushes s i b .after) c ≡ k .mark s c
+    pub pushes-waits : k .pushes s i b .answer ≡ Ok Waits → k .mark (k .pushes s i b .after) c ≡ k .mark s c
+    pub leaves-elsewhere : (c ≡ b → ⊥) → k .mark (k .leaves s i b .after) c ≡ k .mark s c
+    pub leaves-refused : isErr (k .leaves s i b .answer) ≡ true → k .mark (k .leaves s i b .after) c ≡ k .mark s c
+
   -- FAIR KINDS
   pub record Line-meaning (s : S) (b : ℕ) : Type 0 where
     pub holds-the-askers : (i : ℕ) → k .askers s b i ≡ has i (k .line s b)
@@ -210,17 +221,17 @@ module _ {S : Type 0} (k : Kind S) where
     pub counts : k .counts t i ≡ k .counts s i
 
   pub record Lawful : Type 0 where
-    -- no kind is empty: there are ages, few nodes, and a state for any two sizes within their limits
+    -- no kind is empty: there are ages, few nodes, and a state for any sizes within their limits
     pub some-age : 0 < k .modulus
-    pub few-nodes : (n : ℕ) → n ≤ 1024 → k .nodes n ≤ 1024
-    pub some-state : (n m : ℕ) → within-limits n m ≡ true → (s : S) × (k .fits s n m ≡ true)
+    pub few-nodes : (z : Sizes) → within-limits z ≡ true → k .nodes z ≤ 1024
+    pub some-state : (z : Sizes) → within-limits z ≡ true → (s : S) × (k .fits s z ≡ true)
     -- at any state
-    pub layout-rule : (s : S) (n m a : ℕ) → Layout-rule s n m a
+    pub layout-rule : (s : S) (z : Sizes) (a : ℕ) → Layout-rule s z a
     pub laid-out :
-        (s : S) (n m a : ℕ) → isOk (k .lays s n m a .answer) ≡ true → Laid-out (k .lays s n m a .after) n m a
+        (s : S) (z : Sizes) (a : ℕ) → isOk (k .lays s z a .answer) ≡ true → Laid-out (k .lays s z a .after) z a
     pub laid-out-alike :
-        (s t : S) (n m a : ℕ) → isOk (k .lays s n m a .answer) ≡ true → isOk (k .lays t n m a .answer) ≡ true →
-        k .effective (k .lays t n m a .after) ≡ k .effective (k .lays s n m a .after)
+        (s t : S) (z : Sizes) (a : ℕ) → isOk (k .lays s z a .answer) ≡ true → isOk (k .lays t z a .answer) ≡ true →
+        k .effective (k .lays t z a .after) ≡ k .effective (k .lays s z a .after)
     pub effective-decides : (s t : S) (i b : ℕ) → k .effective t ≡ k .effective s → Alike s t i b
     pub refused-alters-nothing : (s : S) (i b : ℕ) → Refused-alters-nothing s i b
     pub calls-keep-sizes : (s : S) (i b : ℕ) → Calls-keep-sizes s i b
@@ -240,5 +251,6 @@ module _ {S : Type 0} (k : Kind S) where
         (s : S) (i b : ℕ) → Reached k s → isOk (k .pushes s i b .answer) ≡ true → Push-effect s (k .pushes s i b .after) i b
     pub leave-effect :
         (s : S) (i b : ℕ) → Reached k s → isOk (k .leaves s i b .answer) ≡ true → Leave-effect s (k .leaves s i b .after) i b
+    pub mark-rule : (s : S) (i b c : ℕ) → Reached k s → c < bins k s → Mark-rule s i b c
     -- and of kinds that say they are fair
     pub fair : k .fair ≡ true → Fair

@@ -6,6 +6,7 @@ use lib.ListN.{getD, set, length, replicate}
 use Rattle.std.specs.declared.option.Option.{Option}
 use Rattle.std.specs.declared.option.Option.the-variants.{None}
 use Rattle.bank.specs.declared.memory.LockMemory.{LockMemory}
+use Rattle.bank.specs.declared.memory.Sizes.{Sizes}
 use Rattle.bank.specs.Memory.{Lent, lent, has-lengths}
 
 pub record Locks (B R : Type 0) : Type 0 where
@@ -19,9 +20,9 @@ locks b m = record { bank = b; memory = lent m }
 abbrev pub state : {B R : Type 0} → RefT B → RefT (LockMemory R) → Locks B R
 state b m = locks (now b) (now m)
 
--- the memory has the lengths told for so many sessions and bins
-abbrev pub fitting : {B R : Type 0} → (ℕ → ℕ) → Locks B R → ℕ → ℕ → Bool
-fitting nodes s n m = has-lengths (nodes n) n m (s .memory)
+-- the memory has the lengths told for these sizes
+abbrev pub fitting : {B R : Type 0} → (Sizes → ℕ) → Locks B R → Sizes → Bool
+fitting nodes s z = has-lengths (nodes z) z (s .memory)
 
 abbrev pub with-bank : {B R : Type 0} → (B → B) → Locks B R → Locks B R
 with-bank f s = record { bank = f (s .bank); memory = s .memory }

@@ -13,6 +13,7 @@ use Rattle.bank.specs.declared.memory.Claim.{Claim}
 use Rattle.bank.specs.declared.memory.Lengths.{Lengths}
 use Rattle.bank.specs.declared.memory.LockMemory.{LockMemory}
 use Rattle.bank.specs.declared.memory.Node.{Node}
+use Rattle.bank.specs.declared.memory.Sizes.{Sizes}
 use Rattle.bank.specs.declared.refusals.Fault.{Fault}
 use Rattle.bank.specs.Refusals.{bad-size, no-session, no-bin, bad-record}
 
@@ -33,25 +34,29 @@ blank l r =
     record { words = replicate (l .words) 0; records = replicate (l .records) r; nodes = replicate (l .nodes) empty-node }
 
 -- 1 to 1,024 sessions and 1 to 4,096 bins
-abbrev pub within-limits : ℕ → ℕ → Bool
-within-limits sessions bins = ltb 0 sessions && leb sessions 1024 && ltb 0 bins && leb bins 4096
+abbrev pub within-limits : Sizes → Bool
+within-limits z = ltb 0 (z .sessions) && leb (z .sessions) 1024 && ltb 0 (z .bins) && leb (z .bins) 4096
 
 -- a word for each bin, a record for each session, and as many nodes as told
-abbrev pub has-lengths : {R : Type 0} → ℕ → ℕ → ℕ → Lent R → Bool
-has-lengths nodes sessions bins m =
-    within-limits sessions bins && eqb (length (m .words)) bins && eqb (length (m .records)) sessions && eqb (length (m .nodes)) nodes
+abbrev pub has-lengths : {R : Type 0} → ℕ → Sizes → Lent R → Bool
+has-lengths nodes z m =
+    within-limits z && eqb (length (m .words)) (z .bins) && eqb (length (m .records)) (z .sessions)
+    && eqb (length (m .nodes)) nodes
 
-abbrev pub admits-session : {R : Type 0} → ℕ → ℕ → ℕ → Lent R → ℕ → Result (Unit {0}) Fault
-admits-session nodes sessions bins m i =
-    cond (has-lengths nodes sessions bins m) (cond (ltb i sessions) (Ok tt) (Err (no-session i))) (Err bad-size)
+abbrev pub admits-session : {R : Type 0} → ℕ → Sizes → Lent R → ℕ → Result (Unit {0}) Fault
+admits-session nodes z m i =
+    cond (has-lengths nodes z m) (cond (ltb i (z .sessions)) (Ok tt) (Err (no-session i))) (Err bad-size)
 
-abbrev pub admits-bin : {R : Type 0} → ℕ → ℕ → ℕ → Lent R → ℕ → Result (Unit {0}) Fault
-admits-bin nodes sessions bins m b =
-    cond (has-lengths nodes sessions bins m) (cond (ltb b bins) (Ok tt) (Err (no-bin b))) (Err bad-size)
+abbrev pub admits-bin : {R : Type 0} → ℕ → Sizes → Lent R → ℕ → Result (Unit {0}) Fault
+admits-bin nodes z m b =
+    cond (has-lengths nodes z m) (cond (ltb b (z .bins)) (Ok tt) (Err (no-bin b))) (Err bad-size)
 
-abbrev pub admits : {R : Type 0} → ℕ → ℕ → ℕ → Lent R → ℕ → ℕ → Result (Unit {0}) Fault
-admits nodes sessions bins m i b =
-    cond (has-lengths nodes sessions bins m) (cond (ltb i sessions) (cond (ltb b bins) (Ok tt) (Err (no-bin b))) (Err (no-session i))) (Err bad-size)
+abbrev pub admits : {R : Type 0} → ℕ → Sizes → Lent R → ℕ → ℕ → Result (Unit {0}) Fault
+admits nodes z m i b =
+    cond
+    (has-lengths nodes z m)
+    (cond (ltb i (z .sessions)) (cond (ltb b (z .bins)) (Ok tt) (Err (no-bin b))) (Err (no-session i)))
+    (Err bad-size)
 
 -- a record's bin is there
 abbrev pub in-range : {T : Type 0} → ℕ → Option (Claim T) → Bool
@@ -63,6 +68,5 @@ checked-record (Err f) bins i r = Err f
 checked-record (Ok u) bins i r = cond (in-range bins r) (Ok r) (Err (bad-record i))
 
 -- the caller's own record, past the refusals 1, 2 and 3, or 9 at the session
-abbrev pub own-record : {T : Type 0} → ℕ → ℕ → ℕ → Lent (Option (Claim T)) → ℕ → ℕ → Result (Option (Claim T)) Fault
-own-record nodes sessions bins m i b =
-    checked-record (admits nodes sessions bins m i b) bins i (getD (m .records) i None)
+abbrev pub own-record : {T : Type 0} → ℕ → Sizes → Lent (Option (Claim T)) → ℕ → ℕ → Result (Option (Claim T)) Fault
+own-record nodes z m i b = checked-record (admits nodes z m i b) (z .bins) i (getD (m .records) i None)

@@ -13,9 +13,9 @@ use super::memory::LockMemory;
 use super::memory::Sizes;
 use super::refusals::Fault;
 
-// The lengths that the memory of a bank must have for two sizes.
+// The lengths that the memory of a bank must have for its sizes.
 pub fn lengths<B: Bank>(sizes: Sizes) -> Result<Lengths, Fault>
-    ensures { λ r. ⌜ r ≡ lengths-told (kind-of B·Bank) (sizes .sessions) (sizes .bins) ⌝ }
+    ensures { λ r. ⌜ r ≡ lengths-told (kind-of B·Bank) sizes ⌝ }
 {
     if !sizes.within_limits() {
         return Err(Fault::bad_size());
@@ -23,7 +23,7 @@ pub fn lengths<B: Bank>(sizes: Sizes) -> Result<Lengths, Fault>
     Ok(Lengths {
         words: sizes.bins,
         records: sizes.sessions,
-        nodes: B::node_count(sizes.sessions),
+        nodes: B::node_count(sizes),
     })
 }
 

@@ -73,11 +73,11 @@ pub trait Bank: Sized {
     // What the kind notes of a session.
     type Record;
 
-    // The two sizes that layout gave.
+    // The sizes that layout gave.
     ghost extent: { Self → Sizes };
 
-    // How many nodes the kind wants for so many sessions.
-    ghost nodesfor: { ℕ → ℕ };
+    // How many nodes the kind wants for these sizes.
+    ghost nodesfor: { Sizes → ℕ };
 
     // The bank without what it only notes down.
     ghost effective: { Self → Self };
@@ -92,7 +92,8 @@ pub trait Bank: Sized {
 
     ghost inside: { Locks Self Self·Record → ℕ → Option ℕ };
 
-    // At a bin: its entries so far, going round at M; whether readers are admitted; the number that readers compare.
+    // At a bin: the starting age plus the entries since layout, modulo M; whether readers are admitted; the number that
+    // readers compare.
     ghost age: { Locks Self Self·Record → ℕ → ℕ };
 
     ghost calm: { Locks Self Self·Record → ℕ → Bool };
@@ -109,17 +110,17 @@ pub trait Bank: Sized {
 
     ghost line: { Locks Self Self·Record → ℕ → List ℕ };
 
-    // The pushes other than waits that a session may still need: at most A after its ask, at most R after its leave.
+    // The pushes other than waits that a session may still need.
     ghost needed: { Locks Self Self·Record → ℕ → ℕ };
 
-    // A.
+    // A: the pushes that a session may need at most after its ask.
     ghost entrypushes: { ℕ };
 
-    // R.
+    // R: the pushes that a session may need at most after its leave.
     ghost exitpushes: { ℕ };
 
     // What each call answers and leaves, for good and bad arguments and any memory.
-    ghost lays: { Locks Self Self·Record → ℕ → ℕ → ℕ → Outcome (Unit {0}) (Locks Self Self·Record) };
+    ghost lays: { Locks Self Self·Record → Sizes → ℕ → Outcome (Unit {0}) (Locks Self Self·Record) };
 
     ghost asks: { Locks Self Self·Record → ℕ → ℕ → Outcome AskAnswer (Locks Self Self·Record) };
 
@@ -133,9 +134,9 @@ pub trait Bank: Sized {
 
     law lawful: { Lawful (kind (λ s. extent (s .bank)) nodesfor (fitting nodesfor) (with-bank effective) modulus askers leaving inside age calm mark calmof ageof fair line needed entrypushes exitpushes lays asks pushes leaves peeks counts) };
 
-    // How many nodes the kind wants for so many sessions.
-    fn node_count(sessions: usize) -> usize
-        ensures { λ r. ⌜ r ≡ nodesfor sessions ⌝ };
+    // How many nodes the kind wants for these sizes.
+    fn node_count(sizes: Sizes) -> usize
+        ensures { λ r. ⌜ r ≡ nodesfor sizes ⌝ };
 
     // The sizes that layout gave.
     fn sizes(&self) -> Sizes
@@ -148,8 +149,8 @@ pub trait Bank: Sized {
         sizes: Sizes,
         start: u64,
     ) -> Result<(), Fault>
-        ensures answer { λ r. ⌜ r ≡ lays (state (self .entry) (memory .entry)) (sizes .sessions) (sizes .bins) start .answer ⌝ }
-        ensures after { λ r. ⌜ state (self .exit) (memory .exit) ≡ lays (state (self .entry) (memory .entry)) (sizes .sessions) (sizes .bins) start .after ⌝ };
+        ensures answer { λ r. ⌜ r ≡ lays (state (self .entry) (memory .entry)) sizes start .answer ⌝ }
+        ensures after { λ r. ⌜ state (self .exit) (memory .exit) ≡ lays (state (self .entry) (memory .entry)) sizes start .after ⌝ };
 
     // Makes a session an asker of a bin.
     fn ask(

@@ -23,7 +23,7 @@ pub struct Sizes {
 
 impl Sizes {
     pub fn within_limits(self) -> bool
-        ensures { λ r. ⌜ r ≡ within-limits (self .sessions) (self .bins) ⌝ }
+        ensures { λ r. ⌜ r ≡ within-limits self ⌝ }
     {
         0 < self.sessions
             && self.sessions <= MOST_SESSIONS
@@ -58,7 +58,7 @@ pub struct LockMemory<R> {
 impl<R> LockMemory<R> {
     // The sizes are within their limits, and the memory has the lengths told for them.
     pub fn fits(&self, sizes: Sizes, nodes: usize) -> bool
-        ensures { λ r. ⌜ r ≡ has-lengths nodes (sizes .sessions) (sizes .bins) (lent (now (self .entry))) ⌝ }
+        ensures { λ r. ⌜ r ≡ has-lengths nodes sizes (lent (now (self .entry))) ⌝ }
     {
         sizes.within_limits()
             && self.words.len() == sizes.bins
@@ -68,7 +68,7 @@ impl<R> LockMemory<R> {
 
     // Refusals 1 and 2 of a call that names a session.
     pub fn admit_session(&self, sizes: Sizes, nodes: usize, session: usize) -> Result<(), Fault>
-        ensures { λ r. ⌜ r ≡ admits-session nodes (sizes .sessions) (sizes .bins) (lent (now (self .entry))) session ⌝ }
+        ensures { λ r. ⌜ r ≡ admits-session nodes sizes (lent (now (self .entry))) session ⌝ }
     {
         if !self.fits(sizes, nodes) {
             return Err(Fault::bad_size());
@@ -81,7 +81,7 @@ impl<R> LockMemory<R> {
 
     // Refusals 1 and 3 of a call that names a bin.
     pub fn admit_bin(&self, sizes: Sizes, nodes: usize, bin: usize) -> Result<(), Fault>
-        ensures { λ r. ⌜ r ≡ admits-bin nodes (sizes .sessions) (sizes .bins) (lent (now (self .entry))) bin ⌝ }
+        ensures { λ r. ⌜ r ≡ admits-bin nodes sizes (lent (now (self .entry))) bin ⌝ }
     {
         if !self.fits(sizes, nodes) {
             return Err(Fault::bad_size());
@@ -94,7 +94,7 @@ impl<R> LockMemory<R> {
 
     // Refusals 1, 2 and 3 of a call that names a session and a bin.
     pub fn admit(&self, sizes: Sizes, nodes: usize, session: usize, bin: usize) -> Result<(), Fault>
-        ensures { λ r. ⌜ r ≡ admits nodes (sizes .sessions) (sizes .bins) (lent (now (self .entry))) session bin ⌝ }
+        ensures { λ r. ⌜ r ≡ admits nodes sizes (lent (now (self .entry))) session bin ⌝ }
     {
         self.admit_session(sizes, nodes, session)?;
         self.admit_bin(sizes, nodes, bin)
@@ -117,12 +117,12 @@ impl<T: Copy> LockMemory<Option<Claim<T>>> {
         session: usize,
         bin: usize,
     ) -> Result<Option<Claim<T>>, Fault>
-        ensures { λ r. ⌜ r ≡ own-record nodes (sizes .sessions) (sizes .bins) (lent (now (self .entry))) session bin ⌝ }
+        ensures { λ r. ⌜ r ≡ own-record nodes sizes (lent (now (self .entry))) session bin ⌝ }
     {
         self.admit(sizes, nodes, session, bin)?;
         let own = self.records[session];
         if !is_in_range(sizes.bins, own) {
-            return Err(Fault::of_kind(Reason::OutOfRange, Place::Session(session)));
+            return Err(Fault::bad_record(session));
         }
         Ok(own)
     }

@@ -1,6 +1,6 @@
 // Why a call was refused, by which layer, and where: docs/REFUSALS.md.
 ghost use mathlib.Core.Path.{_≡_};
-ghost use Rattle.bank.specs.Refusals.{number, bad-size, of-kind, out-of-turn};
+ghost use Rattle.bank.specs.Refusals.{number, bad-size, of-kind, bad-record, bad-word, out-of-turn};
 
 #[derive(Clone, Copy, PartialEq, Eq, Debug)]
 pub enum Reason {
@@ -67,6 +67,20 @@ impl Fault {
             layer: Layer::Kind,
             place,
         }
+    }
+
+    // A stored number out of its range, in a session's record.
+    pub fn bad_record(session: usize) -> Self
+        ensures { λ r. ⌜ r ≡ bad-record session ⌝ }
+    {
+        Fault::of_kind(Reason::OutOfRange, Place::Session(session))
+    }
+
+    // A stored number out of its range, in a bin's lock word.
+    pub fn bad_word(bin: usize) -> Self
+        ensures { λ r. ⌜ r ≡ bad-word bin ⌝ }
+    {
+        Fault::of_kind(Reason::OutOfRange, Place::Bin(bin))
     }
 
     // A call by a session whose turn it is not.

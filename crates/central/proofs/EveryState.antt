@@ -12,11 +12,12 @@ use Rattle.bank.specs.Outcome.{Outcome}
 use Rattle.bank.specs.declared.answers.AskAnswer.{AskAnswer}
 use Rattle.bank.specs.declared.answers.LeaveAnswer.{LeaveAnswer}
 use Rattle.bank.specs.declared.answers.PushAnswer.{PushAnswer}
+use Rattle.bank.specs.declared.memory.Sizes.{Sizes}
 use Rattle.bank.proofs.Admission.{session-unfit, bin-unfit, own-unfit}
 use Rattle.bank.proofs.Itself.{kept-self}
 use Rattle.bank.proofs.Layouts.{layout-granted, layout-refused}
 use Rattle.central.specs.Calls.{laid-out, lays, asks, pushes, leaves}
-use Rattle.central.specs.State.{State, sessions-of, bins-of, nodes-for}
+use Rattle.central.specs.State.{State, nodes-for}
 use Rattle.central.specs.Word.{age-of}
 use Rattle.central.proofs.Invariant.{laid-record, laid-word, laid-fit}
 use Rattle.central.proofs.Meanings.{age-unlocked}
@@ -25,17 +26,16 @@ use Rattle.central.proofs.Views.{Ask-view, ask-view, ask-refused, ask-joins, P
 
 -- LAYOUT
 pub laid-out-means :
-    (s : State) (n m a : ℕ) → isOk (lays s n m a .answer) ≡ true → Laid-out central (lays s n m a .after) n m a
-laid-out-means s n m a h =
-    let g = layout-granted central laid-out (λ s n m a. refl) s n m a h in
+    (s : State) (z : Sizes) (a : ℕ) → isOk (lays s z a .answer) ≡ true → Laid-out central (lays s z a .after) z a
+laid-out-means s z a h =
+    let g = layout-granted central laid-out (λ s z a. refl) s z a h in
     rw
     (g .2)
     (record {
-      sessions = refl;
-      bins = refl;
-      fit = laid-fit s n m a (g .0);
-      no-askers = λ b i k. ap (passes (at b)) (laid-record s n m a i);
-      starting-age = λ b k. ap age-of (laid-word s n m a b (g .0) k) ∙ age-unlocked a (g .1);
+      sizes = refl;
+      fit = laid-fit s z a (g .0);
+      no-askers = λ b i k. ap (passes (at b)) (laid-record s z a i);
+      starting-age = λ b k. ap age-of (laid-word s z a b (g .0) k) ∙ age-unlocked a (g .1);
       empty-line = λ b k. refl;
     })
 
@@ -43,7 +43,7 @@ laid-out-means s n m a h =
 pub refused-alters-nothing : (s : State) (i b : ℕ) → Refused-alters-nothing central s i b
 refused-alters-nothing s i b =
     record {
-      lays = layout-refused central laid-out (λ s n m a. refl) s;
+      lays = layout-refused central laid-out (λ s z a. refl) s;
       asks = ask (asks s i b) (ask-view s i b);
       pushes = push (pushes s i b) (push-view s i b);
       leaves = leave (leaves s i b) (leave-view s i b);
@@ -86,13 +86,13 @@ calls-keep-sizes s i b =
     leave o (leave-exits c q eb ei) = record { sizes = refl; fit = simp length-set }
 
 pub unfit-is-refused :
-    (s : State) (i b : ℕ) → fitting nodes-for s (sessions-of s) (bins-of s) ≡ false → Unfit-is-refused central s i b
+    (s : State) (i b : ℕ) → fitting nodes-for s (s .bank .sizes) ≡ false → Unfit-is-refused central s i b
 unfit-is-refused s i b e =
-    let own = own-unfit 0 (sessions-of s) (bins-of s) (s .memory) i b e in
+    let own = own-unfit 0 (s .bank .sizes) (s .memory) i b e in
     record {
       asks = rw own;
       pushes = rw own;
       leaves = rw own;
-      peeks = rw (bin-unfit 0 (sessions-of s) (bins-of s) (s .memory) b e);
-      counts = rw (session-unfit 0 (sessions-of s) (bins-of s) (s .memory) i e);
+      peeks = rw (bin-unfit 0 (s .bank .sizes) (s .memory) b e);
+      counts = rw (session-unfit 0 (s .bank .sizes) (s .memory) i e);
     }

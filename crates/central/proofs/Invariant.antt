@@ -15,6 +15,7 @@ use Rattle.bank.specs.Claims.{passes, claim, at-stage}
 use Rattle.bank.specs.Locks.{fitting, word-at, record-of, with-both}
 use Rattle.bank.specs.Memory.{in-range}
 use Rattle.bank.specs.declared.memory.Claim.{Claim}
+use Rattle.bank.specs.declared.memory.Sizes.{Sizes}
 use Rattle.bank.proofs.Admission.{Sized, sized}
 use Rattle.bank.proofs.Askers.{at-no-other, not-at, changed}
 use Rattle.bank.proofs.Claims.{passes-set, getD-replicate-none, write-cases, at-stage-from}
@@ -44,34 +45,34 @@ sound None = true
 sound (Some c) = sound-stage (c .stage)
 
 pub record Invariant (s : State) : Type 0 where
-  pub fit : fitting nodes-for s (sessions-of s) (bins-of s) ≡ true
+  pub fit : fitting nodes-for s (s .bank .sizes) ≡ true
   pub bin : (b : ℕ) → b < bins-of s → Bin-state (word-at s b) (holds s b)
   pub ranged : (i : ℕ) → in-range (bins-of s) (record-of s i) ≡ true
   pub remembered : (i : ℕ) → sound (record-of s i) ≡ true
 
 -- the lengths that a fitting memory has
-pub lengths : (s : State) (n m : ℕ) → fitting nodes-for s n m ≡ true → Sized 0 n m (s .memory)
-lengths s n m h = sized 0 n m (s .memory) h
+pub lengths : (s : State) (z : Sizes) → fitting nodes-for s z ≡ true → Sized 0 z (s .memory)
+lengths s z h = sized 0 z (s .memory) h
 
 -- LAYOUT
-pub laid-record : (s : State) (n m a i : ℕ) → record-of (laid-out s n m a) i ≡ None
-laid-record s n m a i = getD-replicate-none (length (s .memory .records)) i
+pub laid-record : (s : State) (z : Sizes) (a i : ℕ) → record-of (laid-out s z a) i ≡ None
+laid-record s z a i = getD-replicate-none (length (s .memory .records)) i
 
-pub laid-word : (s : State) (n m a b : ℕ) → fitting nodes-for s n m ≡ true → b < m → word-at (laid-out s n m a) b ≡ a
-laid-word s n m a b h k = let z = lengths s n m h in getD-replicate (length (s .memory .words)) b a 0 (omega arith)
+pub laid-word : (s : State) (z : Sizes) (a b : ℕ) → fitting nodes-for s z ≡ true → b < z .bins → word-at (laid-out s z a) b ≡ a
+laid-word s z a b h k = let y = lengths s z h in getD-replicate (length (s .memory .words)) b a 0 (omega arith)
 
 pub laid-fit :
-    (s : State) (n m a : ℕ) → fitting nodes-for s n m ≡ true → fitting nodes-for (laid-out s n m a) n m ≡ true
-laid-fit s n m a h = simp length-replicate h
+    (s : State) (z : Sizes) (a : ℕ) → fitting nodes-for s z ≡ true → fitting nodes-for (laid-out s z a) z ≡ true
+laid-fit s z a h = simp length-replicate h
 
 pub laid-invariant :
-    (s : State) (n m a : ℕ) → fitting nodes-for s n m ≡ true → a < lock-bit → Invariant (laid-out s n m a)
-laid-invariant s n m a h l =
+    (s : State) (z : Sizes) (a : ℕ) → fitting nodes-for s z ≡ true → a < lock-bit → Invariant (laid-out s z a)
+laid-invariant s z a h l =
     record {
-      fit = laid-fit s n m a h;
-      bin = λ b k. free (rw (laid-word s n m a b h k) l) (λ j. ap (passes (at-stage entered b)) (laid-record s n m a j));
-      ranged = λ i. ap (in-range m) (laid-record s n m a i);
-      remembered = λ i. ap sound (laid-record s n m a i);
+      fit = laid-fit s z a h;
+      bin = λ b k. free (rw (laid-word s z a b h k) l) (λ j. ap (passes (at-stage entered b)) (laid-record s z a j));
+      ranged = λ i. ap (in-range (z .bins)) (laid-record s z a i);
+      remembered = λ i. ap sound (laid-record s z a i);
     }
 
 -- A CHANGE: other words, and another record of session i.
@@ -90,7 +91,7 @@ bin-kept s ws i r c e f =
     alike (word-at s c) (getD ws c 0) (holds s c) (holds (changed s ws i r) c) e kept
 
 pub record-there : (s : State) (i : ℕ) → Invariant s → i < sessions-of s → i < length (s .memory .records)
-record-there s i I h = let z = lengths s (sessions-of s) (bins-of s) (I .fit) in omega arith
+record-there s i I h = let z = lengths s (s .bank .sizes) (I .fit) in omega arith
 
 -- the invariant holds after a change if it does of the new record and of every bin
 changed-invariant :
@@ -151,7 +152,7 @@ moved-invariant s i b g I hi hb old es ei =
 module _ (s : State) (b w i : ℕ) (r : Option (Claim Stage)) (I : Invariant s) (hi : i < sessions-of s) (hb : b < bins-of s) where
   pub own-word-is : word-at (with-both s b w i r) b ≡ w
   own-word-is =
-      let z = lengths s (sessions-of s) (bins-of s) (I .fit) in
+      let z = lengths s (s .bank .sizes) (I .fit) in
       getD-set-same (s .memory .words) b w 0 (omega arith)
 
   both-invariant :

@@ -7,6 +7,7 @@ use Rattle.std.proofs.shelf.Tests.{false≢true}
 use Rattle.bank.specs.Laws.{Lawful}
 use Rattle.bank.proofs.Itself.{whole-state-decides}
 use Rattle.bank.proofs.Layouts.{some-state, layout-rule, layouts-alike, laid-alike}
+use Rattle.bank.proofs.Marks.{mark-rule}
 use Rattle.central.specs.Calls.{laid-out}
 use Rattle.central.specs.State.{nodes-for}
 use Rattle.central.proofs.EveryState.{laid-out-means, refused-alters-nothing, calls-keep-sizes, unfit-is-refused}
@@ -19,11 +20,11 @@ pub central-lawful : Lawful central
 central-lawful =
     record {
       some-age = lit< tt;
-      few-nodes = λ n h. omega arith;
-      some-state = some-state nodes-for (record { sizes = record { sessions = 0; bins = 0 } }) None;
-      layout-rule = layout-rule central laid-out (λ s n m a. refl);
+      few-nodes = λ z h. omega arith;
+      some-state = some-state nodes-for (λ z. record { sizes = z }) None;
+      layout-rule = layout-rule central laid-out (λ s z a. refl);
       laid-out = laid-out-means;
-      laid-out-alike = layouts-alike central laid-out (λ s n m a. refl) (λ s t n m a. laid-alike a s t n m);
+      laid-out-alike = layouts-alike central laid-out (λ s z a. refl) (λ s t z a. laid-alike a s t z);
       effective-decides = whole-state-decides central (λ s. refl);
       refused-alters-nothing = refused-alters-nothing;
       calls-keep-sizes = calls-keep-sizes;
@@ -39,5 +40,12 @@ central-lawful =
       ask-effect = λ s i b r. ask-effect s i b (reached-invariant r);
       push-effect = λ s i b r _. push-effect s i b (reached-invariant r);
       leave-effect = λ s i b r. leave-effect s i b (reached-invariant r);
+      mark-rule =
+          mark-rule
+          central
+          refused-alters-nothing
+          (λ s i b r. ask-effect s i b (reached-invariant r))
+          (λ s i b r _. push-effect s i b (reached-invariant r))
+          (λ s i b r. leave-effect s i b (reached-invariant r));
       fair = λ f. absurd (false≢true f);
     }

@@ -11,7 +11,7 @@ use Rattle.bank.specs.Locks.{word-at}
 use Rattle.bank.proofs.Askers.{one-bin, asker-session, asker-in-range}
 use Rattle.bank.proofs.Claims.{found-none, found-one, claim-asker, inside-claim}
 use Rattle.central.specs.Meaning.{inside}
-use Rattle.central.specs.State.{State, sessions-of, bins-of, entered}
+use Rattle.central.specs.State.{State, bins-of, entered}
 use Rattle.central.specs.Word.{lock-bit, unlocked, released, age-of}
 use Rattle.central.proofs.Invariant.{Invariant, Bin-state, free, held, holds, no-holder, one-holder}
 use Rattle.central.proofs.Reachable.{central}
@@ -66,6 +66,6 @@ bin-meaning s b I h =
 pub asker-exists : (s : State) (i b : ℕ) → Invariant s → Asker-exists central s i b
 asker-exists s i b I =
     record {
-      session = asker-session s 0 (sessions-of s) (bins-of s) b i (I .fit);
+      session = asker-session s 0 (s .bank .sizes) b i (I .fit);
       bin = asker-in-range s (bins-of s) b i (I .ranged i);
     }

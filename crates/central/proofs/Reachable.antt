@@ -11,6 +11,7 @@ use Rattle.bank.specs.Outcome.{Outcome}
 use Rattle.bank.specs.declared.answers.AskAnswer.{AskAnswer}
 use Rattle.bank.specs.declared.answers.LeaveAnswer.{LeaveAnswer}
 use Rattle.bank.specs.declared.answers.PushAnswer.{PushAnswer}
+use Rattle.bank.specs.declared.memory.Sizes.{Sizes}
 use Rattle.bank.proofs.Layouts.{layout-granted}
 use Rattle.central.specs.declared.Stage.the-variants.{Look, Swap}
 use Rattle.central.specs.Calls as calls
@@ -57,10 +58,10 @@ pub look-outside : (w : ℕ) → entered (after-look w) ≡ false
 look-outside w = cond-both (unlocked w) (Swap w) Look (λ g. entered g ≡ false) (λ e. refl) (λ e. refl)
 
 -- the invariant holds after a granted layout, and every call keeps it
-layout-keeps : (s : State) (n m a : ℕ) → isOk (calls.lays s n m a .answer) ≡ true → Invariant (calls.lays s n m a .after)
-layout-keeps s n m a h =
-    let g = layout-granted central calls.laid-out (λ s n m a. refl) s n m a h in
-    rw (g .2) (laid-invariant s n m a (g .0) (g .1))
+layout-keeps : (s : State) (z : Sizes) (a : ℕ) → isOk (calls.lays s z a .answer) ≡ true → Invariant (calls.lays s z a .after)
+layout-keeps s z a h =
+    let g = layout-granted central calls.laid-out (λ s z a. refl) s z a h in
+    rw (g .2) (laid-invariant s z a (g .0) (g .1))
 
 ask-keeps : (s : State) (i b : ℕ) (o : Outcome AskAnswer State) → Ask-view s i b o → Invariant s → Invariant (o .after)
 ask-keeps s i b o (ask-refused f) I = I
@@ -85,7 +86,7 @@ leave-keeps s i b o (leave-exits c q eb ei) I =
     exit-invariant s i b c I (q .admitted .session) (q .admitted .bin) (q .read) eb ei
 
 pub reached-invariant : {s : State} → Reached central s → Invariant s
-reached-invariant (after-layout s n m a h) = layout-keeps s n m a h
+reached-invariant (after-layout s z a h) = layout-keeps s z a h
 reached-invariant (after-ask s i b r) = ask-keeps s i b (calls.asks s i b) (ask-view s i b) (reached-invariant r)
 reached-invariant (after-push s i b r) = push-keeps s i b (calls.pushes s i b) (push-view s i b) (reached-invariant r)
 reached-invariant (after-leave s i b r) = leave-keeps s i b (calls.leaves s i b) (leave-view s i b) (reached-invariant r)

@@ -32,13 +32,13 @@ use Rattle.central.proofs.Reachable.{central}
 -- the caller's own record is read where the session and the bin are there
 own-is :
     (s : State) (i b : ℕ) → Invariant s → i < sessions-of s → b < bins-of s → own-record s i b ≡ Ok (record-of s i)
-own-is s i b I h k = own-there 0 (sessions-of s) (bins-of s) (s .memory) i b (I .fit) h k (I .ranged i)
+own-is s i b I h k = own-there 0 (s .bank .sizes) (s .memory) i b (I .fit) h k (I .ranged i)
 
 pub ask-rule : (s : State) (i b : ℕ) → Invariant s → Ask-rule central s i b
 ask-rule s i b I =
     record {
-      no-session = λ h. rw (own-no-session 0 (sessions-of s) (bins-of s) (s .memory) i b (I .fit) h);
-      no-bin = λ h k. rw (own-no-bin 0 (sessions-of s) (bins-of s) (s .memory) i b (I .fit) h k);
+      no-session = λ h. rw (own-no-session 0 (s .bank .sizes) (s .memory) i b (I .fit) h);
+      no-bin = λ h k. rw (own-no-bin 0 (s .bank .sizes) (s .memory) i b (I .fit) h k);
       asker = λ h k c l e. rw (own-is s i b I h k, asker-claim s c i e .1);
       granted = λ h k n. rw (own-is s i b I h k, no-claim s (bins-of s) i (I .ranged i) n);
     }
@@ -81,8 +81,8 @@ push-stranger s i b o n = go (record-of s i) refl
 pub push-rule : (s : State) (i b : ℕ) → Invariant s → Push-rule central s i b
 push-rule s i b I =
     record {
-      no-session = λ h. rw (own-no-session 0 (sessions-of s) (bins-of s) (s .memory) i b (I .fit) h);
-      no-bin = λ h k. rw (own-no-bin 0 (sessions-of s) (bins-of s) (s .memory) i b (I .fit) h k);
+      no-session = λ h. rw (own-no-session 0 (s .bank .sizes) (s .memory) i b (I .fit) h);
+      no-bin = λ h k. rw (own-no-bin 0 (s .bank .sizes) (s .memory) i b (I .fit) h k);
       stranger = λ h k n. push-stranger s i b (own-is s i b I h k) n;
       inside =
           λ h k e.
@@ -104,8 +104,8 @@ push-rule s i b I =
 pub leave-rule : (s : State) (i b : ℕ) → Invariant s → Leave-rule central s i b
 leave-rule s i b I =
     record {
-      no-session = λ h. rw (own-no-session 0 (sessions-of s) (bins-of s) (s .memory) i b (I .fit) h);
-      no-bin = λ h k. rw (own-no-bin 0 (sessions-of s) (bins-of s) (s .memory) i b (I .fit) h k);
+      no-session = λ h. rw (own-no-session 0 (s .bank .sizes) (s .memory) i b (I .fit) h);
+      no-bin = λ h k. rw (own-no-bin 0 (s .bank .sizes) (s .memory) i b (I .fit) h k);
       not-inside = λ h k n. not-inside k (own-is s i b I h k) n (record-of s i) refl;
       granted =
           λ h k e.
@@ -124,15 +124,15 @@ leave-rule s i b I =
 pub peek-rule : (s : State) (b : ℕ) → Invariant s → Peek-rule central s b
 peek-rule s b I =
     record {
-      no-bin = λ h. rw (bin-missing 0 (sessions-of s) (bins-of s) (s .memory) b (I .fit) h);
-      granted = λ h. rw (bin-there 0 (sessions-of s) (bins-of s) (s .memory) b (I .fit) h);
+      no-bin = λ h. rw (bin-missing 0 (s .bank .sizes) (s .memory) b (I .fit) h);
+      granted = λ h. rw (bin-there 0 (s .bank .sizes) (s .memory) b (I .fit) h);
     }
 
 pub ahead-rule : (s : State) (i : ℕ) → Invariant s → Ahead-rule central s i
 ahead-rule s i I =
     record {
-      no-session = λ h. rw (session-missing 0 (sessions-of s) (bins-of s) (s .memory) i (I .fit) h);
-      in-no-line = λ h n. rw (session-there 0 (sessions-of s) (bins-of s) (s .memory) i (I .fit) h);
-      without-lines = λ _ h. rw (session-there 0 (sessions-of s) (bins-of s) (s .memory) i (I .fit) h);
+      no-session = λ h. rw (session-missing 0 (s .bank .sizes) (s .memory) i (I .fit) h);
+      in-no-line = λ h n. rw (session-there 0 (s .bank .sizes) (s .memory) i (I .fit) h);
+      without-lines = λ _ h. rw (session-there 0 (s .bank .sizes) (s .memory) i (I .fit) h);
       those-before = λ f. absurd (false≢true f);
     }

@@ -25,13 +25,13 @@ use Rattle.bank.proofs.Claims.{at-stage-parts}
 use Rattle.central.specs.declared.Stage.{Stage}
 use Rattle.central.specs.declared.Stage.the-variants.{Look, Swap, Inside}
 use Rattle.central.specs.Calls.{staged, after-look, asks, asks-own, pushes, pushes-at, pushes-own, swaps, leaves, leaves-own}
-use Rattle.central.specs.State.{State, sessions-of, bins-of, entered, own-record}
+use Rattle.central.specs.State.{State, entered, own-record}
 use Rattle.central.specs.Word.{lock-bit, unlocked, locked, released}
 use Rattle.central.proofs.Invariant.{sound-stage}
 
 -- a call past the refusals 1, 2 and 3 whose own record r is in range
 abbrev pub Owns : State → ℕ → ℕ → Option (Claim Stage) → Type 0
-Owns s i b r = Own 0 (sessions-of s) (bins-of s) (s .memory) i b r
+Owns s i b r = Own 0 (s .bank .sizes) (s .memory) i b r
 
 pub data Ask-view (s : State) (i b : ℕ) : Outcome AskAnswer State → Type 0 where
   ask-refused : (f : Fault) → Ask-view s i b (refused s f)
@@ -43,7 +43,7 @@ ask-view s i b = go (own-record s i b) refl
     go : (a : Result (Option (Claim Stage)) Fault) → own-record s i b ≡ a → Ask-view s i b (asks-own a s i b)
     go (Err f) e = ask-refused f
     go (Ok (Some c)) e = ask-refused (out-of-turn i)
-    go (Ok None) e = ask-joins (owned 0 (sessions-of s) (bins-of s) (s .memory) i b None e)
+    go (Ok None) e = ask-joins (owned 0 (s .bank .sizes) (s .memory) i b None e)
 
 pub data Push-view (s : State) (i b : ℕ) : Outcome PushAnswer State → Type 0 where
   push-refused : (f : Fault) → Push-view s i b (refused s f)
@@ -94,7 +94,7 @@ push-view s i b = go (own-record s i b) refl
     go (Err f) e = push-refused f
     go (Ok None) e = push-refused (out-of-turn i)
     go (Ok (Some c)) e =
-        let o = owned 0 (sessions-of s) (bins-of s) (s .memory) i b (Some c) e in
+        let o = owned 0 (s .bank .sizes) (s .memory) i b (Some c) e in
         cond-both
         (at b c)
         _
@@ -116,7 +116,7 @@ leave-view s i b = go (own-record s i b) refl
     go (Err f) e = leave-refused f
     go (Ok None) e = leave-refused (out-of-turn i)
     go (Ok (Some c)) e =
-        let o = owned 0 (sessions-of s) (bins-of s) (s .memory) i b (Some c) e in
+        let o = owned 0 (s .bank .sizes) (s .memory) i b (Some c) e in
         cond-both
         (at-stage entered b c)
         _

@@ -18,19 +18,20 @@ use Rattle.bank.specs.declared.answers.LeaveAnswer.the-variants.{Out as OutAtOn
 use Rattle.bank.specs.declared.answers.PushAnswer.{PushAnswer}
 use Rattle.bank.specs.declared.answers.PushAnswer.the-variants.{Waits, Moved, In}
 use Rattle.bank.specs.declared.memory.Claim.{Claim}
+use Rattle.bank.specs.declared.memory.Sizes.{Sizes}
 use Rattle.bank.specs.declared.refusals.Fault.{Fault}
 use Rattle.central.specs.declared.Stage.{Stage}
 use Rattle.central.specs.declared.Stage.the-variants.{Look, Swap, Inside}
-use Rattle.central.specs.State.{State, sessions-of, bins-of, nodes-for, entered, own-record}
+use Rattle.central.specs.State.{State, nodes-for, entered, own-record}
 use Rattle.central.specs.Word.{unlocked, locked, released}
 
 -- LAYOUT: every word is unlocked at the starting age, and nobody has a claim.
-abbrev pub laid-out : State → ℕ → ℕ → ℕ → State
-laid-out s n m a = laid-with s (record { sizes = record { sessions = n; bins = m } }) a
+abbrev pub laid-out : State → Sizes → ℕ → State
+laid-out s z a = laid-with s (record { sizes = z }) a
 
-abbrev pub lays : State → ℕ → ℕ → ℕ → Outcome (Unit {0}) State
-lays s n m a =
-    cond (fitting nodes-for s n m && ltb a 9223372036854775808) (granted (laid-out s n m a) tt) (refused s bad-size)
+abbrev pub lays : State → Sizes → ℕ → Outcome (Unit {0}) State
+lays s z a =
+    cond (fitting nodes-for s z && ltb a 9223372036854775808) (granted (laid-out s z a) tt) (refused s bad-size)
 
 -- a session's record with another stage
 abbrev pub staged : State → ℕ → ℕ → Stage → State
@@ -86,7 +87,7 @@ peeks-word (Err f) w = Err f
 peeks-word (Ok u) w = Ok (w, unlocked w)
 
 abbrev pub peeks : State → ℕ → Result (ℕ × Bool) Fault
-peeks s b = peeks-word (admits-bin 0 (sessions-of s) (bins-of s) (s .memory) b) (word-at s b)
+peeks s b = peeks-word (admits-bin 0 (s .bank .sizes) (s .memory) b) (word-at s b)
 
 -- AHEAD: nobody stands in a line.
 abbrev pub no-line : Result (Unit {0}) Fault → Result (Option ℕ) Fault
@@ -94,4 +95,4 @@ no-line (Err f) = Err f
 no-line (Ok u) = Ok None
 
 abbrev pub counts : State → ℕ → Result (Option ℕ) Fault
-counts s i = no-line (admits-session 0 (sessions-of s) (bins-of s) (s .memory) i)
+counts s i = no-line (admits-session 0 (s .bank .sizes) (s .memory) i)

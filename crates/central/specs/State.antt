@@ -6,6 +6,7 @@ use Rattle.std.specs.declared.result.Result.{Result}
 use Rattle.bank.specs.Locks.{Locks}
 use Rattle.bank.specs.Memory as memory
 use Rattle.bank.specs.declared.memory.Claim.{Claim}
+use Rattle.bank.specs.declared.memory.Sizes.{Sizes}
 use Rattle.bank.specs.declared.refusals.Fault.{Fault}
 use Rattle.central.specs.declared.Central.{Central}
 use Rattle.central.specs.declared.Stage.{Stage}
@@ -21,8 +22,8 @@ abbrev pub bins-of : State → ℕ
 bins-of s = s .bank .sizes .bins
 
 -- the kind has no nodes
-abbrev pub nodes-for : ℕ → ℕ
-nodes-for n = 0
+abbrev pub nodes-for : Sizes → ℕ
+nodes-for z = 0
 
 abbrev pub entered : Stage → Bool
 entered Look = false
@@ -31,4 +32,4 @@ entered Inside = true
 
 -- the caller's own record, past the refusals 1, 2 and 3, or 9 at the session
 abbrev pub own-record : State → ℕ → ℕ → Result (Option (Claim Stage)) Fault
-own-record s i b = memory.own-record 0 (sessions-of s) (bins-of s) (s .memory) i b
+own-record s i b = memory.own-record 0 (s .bank .sizes) (s .memory) i b

@@ -1,6 +1,8 @@
 // The central kind: a session looks until the word is unlocked, and then swaps it for a locked one.
 ghost use mathlib.Core.Bool.{false};
-ghost use Rattle.bank.specs.Claims.{askers as asking};
+ghost use mathlib.Core.Path.{_≡_};
+ghost use Rattle.std.specs.declared.option.Option.the-variants.{Some};
+ghost use Rattle.bank.specs.Claims.{claim, askers as asking};
 ghost use Rattle.central.specs.Word.{unlocked, lock-bit, age-of};
 ghost use Rattle.central.specs.State.{nodes-for};
 ghost use Rattle.central.specs.Meaning as meaning;
@@ -12,9 +14,7 @@ use bank::ClaimClone;
 use bank::Fault;
 use bank::LeaveAnswer;
 use bank::LockMemory;
-use bank::Place;
 use bank::PushAnswer;
-use bank::Reason;
 use bank::Sizes;
 use bank::SizesDefault;
 
@@ -26,6 +26,7 @@ pub enum Stage {
     Inside,
 }
 
+// A bank of central locks: the sizes that layout gave it.
 #[derive(Clone, Copy, Default)]
 pub struct Central {
     sizes: Sizes,
@@ -36,6 +37,13 @@ const LOCK_BIT: u64 = 9223372036854775808;
 
 // The kind links no line through nodes.
 const NODES: usize = 0;
+
+// The record of a session at a stage at a bin.
+fn claimed(bin: usize, stage: Stage) -> Option<Claim<Stage>>
+    ensures { λ r. ⌜ r ≡ Some (claim bin stage) ⌝ }
+{
+    Some(Claim { bin, stage })
+}
 
 pub impl Bank for Central as CentralBank {
     type Record = Option<Claim<Stage>>;
@@ -86,7 +94,7 @@ pub impl Bank for Central as CentralBank {
 
     ghost counts = { calls.counts };
 
-    fn node_count(_sessions: usize) -> usize {
+    fn node_count(_sizes: Sizes) -> usize {
         NODES
     }
 
@@ -124,7 +132,7 @@ pub impl Bank for Central as CentralBank {
         } else {
             Stage::Look
         };
-        memory.records[session] = Some(Claim { bin, stage });
+        memory.records[session] = claimed(bin, stage);
         Ok(AskAnswer::NotYet)
     }
 
@@ -146,22 +154,19 @@ pub impl Bank for Central as CentralBank {
                 if word >= LOCK_BIT {
                     return Ok(PushAnswer::Waits);
                 }
-                let stage = Stage::Swap(word);
-                memory.records[session] = Some(Claim { bin, stage });
+                memory.records[session] = claimed(bin, Stage::Swap(word));
                 Ok(PushAnswer::Moved)
             }
             Stage::Swap(seen) => {
                 if seen >= LOCK_BIT {
-                    return Err(Fault::of_kind(Reason::OutOfRange, Place::Session(session)));
+                    return Err(Fault::bad_record(session));
                 }
                 if word != seen {
-                    let stage = Stage::Look;
-                    memory.records[session] = Some(Claim { bin, stage });
+                    memory.records[session] = claimed(bin, Stage::Look);
                     return Ok(PushAnswer::Moved);
                 }
-                let stage = Stage::Inside;
                 memory.words[bin] = seen + LOCK_BIT;
-                memory.records[session] = Some(Claim { bin, stage });
+                memory.records[session] = claimed(bin, Stage::Inside);
                 Ok(PushAnswer::In)
             }
             Stage::Inside => Err(Fault::out_of_turn(session)),

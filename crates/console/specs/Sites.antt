@@ -41,7 +41,7 @@ Holds-central (Central r) s = locks (r .bank) (r .memory) ≡ s
 
 -- a bank laid out as the setup says, so that all laws hold of it
 abbrev pub Starts : {S : Type 0} → Kind S → Setup → S → Type 0
-Starts k z s = Reached k s × Laid-out k s (z .sizes .sessions) (z .sizes .bins) (z .start)
+Starts k z s = Reached k s × Laid-out k s (z .sizes) (z .start)
 
 -- a bank of the kind that the setup names
 abbrev pub New : KindName → Setup → Site → Type 0

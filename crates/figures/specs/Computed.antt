@@ -15,7 +15,7 @@ unlaid =
     }
 
 abbrev pub laid : State
-laid = lays unlaid 1 1 4294967295 .after
+laid = lays unlaid (record { sessions = 1; bins = 1 }) 4294967295 .after
 
 abbrev pub inside : State
 inside = asks laid 0 0 .after

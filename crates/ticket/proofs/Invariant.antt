@@ -12,6 +12,7 @@ use Rattle.std.proofs.shelf.Tests.{eqb-true, eq-eqb, ne-eqb, cases-eq, cases-lt
 use Rattle.bank.specs.Claims.{passes, at, claim}
 use Rattle.bank.specs.Locks.{fitting, word-at, record-of, with-record}
 use Rattle.bank.specs.declared.memory.Claim.{Claim}
+use Rattle.bank.specs.declared.memory.Sizes.{Sizes}
 use Rattle.bank.proofs.Admission.{Sized, sized}
 use Rattle.bank.proofs.Askers.{at-no-other}
 use Rattle.bank.proofs.Claims.{some-same, some-none, getD-replicate-none, write-cases, claim-cases}
@@ -32,8 +33,8 @@ served-at s b = served-of (word-at s b)
 abbrev pub outstanding-at : State → ℕ → ℕ
 outstanding-at s b = outstanding (word-at s b)
 
-abbrev pub fits : State → ℕ → ℕ → Type 0
-fits s n m = fitting nodes-for s n m ≡ true
+abbrev pub fits : State → Sizes → Type 0
+fits s z = fitting nodes-for s z ≡ true
 
 -- a claim at bin b, of so many bins, whose word is w: its ticket is outstanding, and the one served if it is inside
 pub record Valid (bins b w : ℕ) (c : Claim Turn) : Type 0 where
@@ -48,7 +49,7 @@ Held s b o =
     (j : ℕ) × (c : Claim Turn) × (record-of s j ≡ Some c) × (c .bin ≡ b) × (c .stage .ticket ≡ forward (served-at s b) o)
 
 pub record Invariant (s : State) : Type 0 where
-  pub fit : fits s (sessions-of s) (bins-of s)
+  pub fit : fits s (s .bank .sizes)
   pub word : (b : ℕ) → b < bins-of s → word-at s b < 18446744073709551616
   pub number : (b : ℕ) → b < bins-of s → count (at b) (s .memory .records) ≡ outstanding-at s b
   pub valid :
@@ -58,8 +59,8 @@ pub record Invariant (s : State) : Type 0 where
       c .stage .ticket ≡ d .stage .ticket → i ≡ j
   pub held : (b o : ℕ) → b < bins-of s → o < outstanding-at s b → Held s b o
 
-pub lengths : (s : State) → Invariant s → Sized 0 (sessions-of s) (bins-of s) (s .memory)
-lengths s I = sized 0 (sessions-of s) (bins-of s) (s .memory) (I .fit)
+pub lengths : (s : State) → Invariant s → Sized 0 (s .bank .sizes) (s .memory)
+lengths s I = sized 0 (s .bank .sizes) (s .memory) (I .fit)
 
 session-length : (s : State) (i : ℕ) → Invariant s → i < sessions-of s → i < length (s .memory .records)
 session-length s i I h = let z = lengths s I in omega arith
@@ -72,22 +73,22 @@ pub few-outstanding : (s : State) (b : ℕ) → Invariant s → b < bins-of s �
 few-outstanding s b I h = let z = lengths s I in omega (arith, count-le (at b) (s .memory .records), I .number b h)
 
 -- LAYOUT
-module _ (s : State) (n m a : ℕ) where
-  pub laid-record : (i : ℕ) → record-of (laid-out s n m a) i ≡ None
+module _ (s : State) (z : Sizes) (a : ℕ) where
+  pub laid-record : (i : ℕ) → record-of (laid-out s z a) i ≡ None
   laid-record i = getD-replicate-none (length (s .memory .records)) i
 
-  pub laid-word : fits s n m → (b : ℕ) → b < m → word-at (laid-out s n m a) b ≡ word-of a a
+  pub laid-word : fits s z → (b : ℕ) → b < z .bins → word-at (laid-out s z a) b ≡ word-of a a
   laid-word h b k =
-      let z = sized 0 n m (s .memory) h in
+      let y = sized 0 z (s .memory) h in
       getD-replicate (length (s .memory .words)) b (word-of a a) 0 (omega arith)
 
   pub laid-outstanding :
-      fits s n m → a < 4294967296 → (b : ℕ) → b < m → outstanding-at (laid-out s n m a) b ≡ 0
+      fits s z → a < 4294967296 → (b : ℕ) → b < z .bins → outstanding-at (laid-out s z a) b ≡ 0
   laid-outstanding h l b k = ap outstanding (laid-word h b k) ∙ outstanding-word a a l ∙ past-same a l
 
-  pub laid-invariant : fits s n m → a < 4294967296 → Invariant (laid-out s n m a)
+  pub laid-invariant : fits s z → a < 4294967296 → Invariant (laid-out s z a)
   laid-invariant h l =
-      let t = laid-out s n m a in
+      let t = laid-out s z a in
       record {
         fit = simp length-replicate h;
         word = λ b k. rw (laid-word h b k) (word-below a a l l);

@@ -14,6 +14,7 @@ use Rattle.bank.specs.declared.answers.LeaveAnswer.{LeaveAnswer}
 use Rattle.bank.specs.declared.answers.PushAnswer.{PushAnswer}
 use Rattle.bank.proofs.Itself.{whole-state-decides}
 use Rattle.bank.proofs.Layouts.{some-state, layout-rule, layouts-alike, laid-alike}
+use Rattle.bank.proofs.Marks.{mark-rule}
 use Rattle.ticket.specs.Word.{word-of}
 use Rattle.ticket.specs.State.{State, nodes-for}
 use Rattle.ticket.specs.Calls.{laid-out, asks, pushes, leaves}
@@ -77,12 +78,12 @@ pub ticket-lawful : Lawful ticket
 ticket-lawful =
     record {
       some-age = omega arith;
-      few-nodes = λ n h. omega arith;
-      some-state = some-state nodes-for (record { sizes = record { sessions = 0; bins = 0 } }) None;
-      layout-rule = layout-rule ticket laid-out (λ s n m a. refl);
+      few-nodes = λ z h. omega arith;
+      some-state = some-state nodes-for (λ z. record { sizes = z }) None;
+      layout-rule = layout-rule ticket laid-out (λ s z a. refl);
       laid-out = laid-out-means;
       laid-out-alike =
-          layouts-alike ticket laid-out (λ s n m a. refl) (λ s t n m a. laid-alike (word-of a a) s t n m);
+          layouts-alike ticket laid-out (λ s z a. refl) (λ s t z a. laid-alike (word-of a a) s t z);
       effective-decides = whole-state-decides ticket (λ s. refl);
       refused-alters-nothing = refused-alters-nothing;
       calls-keep-sizes = calls-keep-sizes;
@@ -98,5 +99,12 @@ ticket-lawful =
       ask-effect = λ s i b r h. asking s i b (reached-invariant r) h .0;
       push-effect = λ s i b r h. pushing s i b (reached-invariant r) h .0;
       leave-effect = λ s i b r h. leaving s i b (reached-invariant r) h .0;
+      mark-rule =
+          mark-rule
+          ticket
+          refused-alters-nothing
+          (λ s i b r h. asking s i b (reached-invariant r) h .0)
+          (λ s i b r h. pushing s i b (reached-invariant r) h .0)
+          (λ s i b r h. leaving s i b (reached-invariant r) h .0);
       fair = λ f. ticket-fair;
     }

@@ -16,12 +16,13 @@ use Rattle.bank.specs.Kind.{has}
 use Rattle.bank.specs.Laws.{Bin-meaning, Asker-exists, Laid-out, Line-meaning}
 use Rattle.bank.specs.Locks.{word-at, record-of}
 use Rattle.bank.specs.declared.memory.Claim.{Claim}
+use Rattle.bank.specs.declared.memory.Sizes.{Sizes}
 use Rattle.bank.proofs.Askers.{one-bin, asker-session, asker-in-range}
 use Rattle.bank.proofs.Claims.{found-replicate, asker-claim, claim-asker, inside-claim, nobody-inside, one-inside}
 use Rattle.bank.proofs.Layouts.{layout-granted}
 use Rattle.ticket.specs.declared.Turn.{Turn}
 use Rattle.ticket.specs.Word.{served-of, after, past}
-use Rattle.ticket.specs.State.{State, sessions-of, bins-of, entered}
+use Rattle.ticket.specs.State.{State, bins-of, entered}
 use Rattle.ticket.specs.Meaning.{inside, age-with, calm, holds, listed, holders, line}
 use Rattle.ticket.specs.Calls.{laid-out, lays}
 use Rattle.ticket.proofs.Tickets.{forward, served-word, next-below, served-below, after-below, past-same, past-zero, forward-past}
@@ -103,30 +104,29 @@ bin-meaning s b I h =
 pub asker-exists : (s : State) (i b : ℕ) → Invariant s → Asker-exists ticket s i b
 asker-exists s i b I =
     record {
-      session = asker-session s 0 (sessions-of s) (bins-of s) b i (I .fit);
+      session = asker-session s 0 (s .bank .sizes) b i (I .fit);
       bin = asker-in-range s (bins-of s) b i (claim-in-range s i I);
     }
 
-laid-meaning : (s : State) (n m a : ℕ) → fits s n m → a < 4294967296 → Laid-out ticket (laid-out s n m a) n m a
-laid-meaning s n m a p q =
-    let t = laid-out s n m a in
+laid-meaning : (s : State) (z : Sizes) (a : ℕ) → fits s z → a < 4294967296 → Laid-out ticket (laid-out s z a) z a
+laid-meaning s z a p q =
+    let t = laid-out s z a in
     record {
-      sessions = refl;
-      bins = refl;
-      fit = laid-invariant s n m a p q .fit;
-      no-askers = λ b i k. ap (passes (at b)) (laid-record s n m a i);
+      sizes = refl;
+      fit = laid-invariant s z a p q .fit;
+      no-askers = λ b i k. ap (passes (at b)) (laid-record s z a i);
       starting-age =
           λ b k.
           ap (age-with (served-at t b)) (found-replicate (at-stage entered b) 0 (length (s .memory .records)))
-          ∙ ap served-of (laid-word s n m a p b k)
+          ∙ ap served-of (laid-word s z a p b k)
           ∙ served-word a a q;
-      empty-line = λ b k. ap (holders (t .memory .records) b (served-at t b)) (laid-outstanding s n m a p q b k);
+      empty-line = λ b k. ap (holders (t .memory .records) b (served-at t b)) (laid-outstanding s z a p q b k);
     }
 
-pub laid-out-means : (s : State) (n m a : ℕ) → isOk (lays s n m a .answer) ≡ true → Laid-out ticket (lays s n m a .after) n m a
-laid-out-means s n m a h =
-    let g = layout-granted ticket laid-out (λ s n m a. refl) s n m a h in
-    rw (g .2) (laid-meaning s n m a (g .0) (g .1))
+pub laid-out-means : (s : State) (z : Sizes) (a : ℕ) → isOk (lays s z a .answer) ≡ true → Laid-out ticket (lays s z a .after) z a
+laid-out-means s z a h =
+    let g = layout-granted ticket laid-out (λ s z a. refl) s z a h in
+    rw (g .2) (laid-meaning s z a (g .0) (g .1))
 
 -- LINES
 -- the holder of the ticket served is the first in line

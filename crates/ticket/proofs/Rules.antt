@@ -13,7 +13,6 @@ use Rattle.std.specs.declared.result.Result.the-variants.{Ok, Err}
 use Rattle.std.proofs.shelf.Lists.{length-set}
 use Rattle.std.proofs.shelf.Tests.{lt-ltb, and-right, not-from-true, not-from-false, true≢false, false≢true}
 use Rattle.bank.specs.Claims.{passes, at-stage, askers}
-use Rattle.bank.specs.Kind.{joined}
 use Rattle.bank.specs.Laws.{Refused-alters-nothing, Kept, Calls-keep-sizes, Unfit-is-refused, Ask-rule, Push-rule, Leave-rule, Peek-rule, Ahead-rule}
 use Rattle.bank.specs.Locks.{fitting, word-at, record-of}
 use Rattle.bank.specs.Outcome.{Outcome}
@@ -25,7 +24,6 @@ use Rattle.bank.specs.declared.memory.Claim.{Claim}
 use Rattle.bank.proofs.Admission.{session-unfit, session-missing, session-there, bin-unfit, bin-missing, bin-there, own-unfit, own-no-session, own-no-bin}
 use Rattle.bank.proofs.Askers.{no-claim, not-at}
 use Rattle.bank.proofs.Claims.{untrue, at-stage-from, stage-claim, asker-claim, inside-claim}
-use Rattle.bank.proofs.Distinct.{asked-joins}
 use Rattle.bank.proofs.Itself.{kept-self}
 use Rattle.bank.proofs.Layouts.{layout-refused}
 use Rattle.ticket.specs.declared.Turn.{Turn}
@@ -34,7 +32,7 @@ use Rattle.ticket.specs.State.{State, sessions-of, bins-of, nodes-for, entered
 use Rattle.ticket.specs.Meaning.{inside, line}
 use Rattle.ticket.specs.Calls.{laid-out, asks-word, asks-own, asks, called, pushes-word, pushes-own, pushes, leaves-word, leaves-own, leaves, peeks-word, counts-word, counts-own, counts}
 use Rattle.ticket.proofs.Tickets.{served-below, past-forward}
-use Rattle.ticket.proofs.Invariant.{next-at, served-at, Invariant, lengths, few-outstanding}
+use Rattle.ticket.proofs.Invariant.{served-at, Invariant, lengths, few-outstanding}
 use Rattle.ticket.proofs.Views.{ticket, claim-in-range, reads-record, reads-word, Ask-view, ask-view, ask-refused, ask-drawn, Push-view, push-view, push-refused, push-waits, push-in, Leave-view, leave-view, leave-refused, leave-out}
 use Rattle.ticket.proofs.Meanings.{inside-one, line-place}
 
@@ -42,7 +40,7 @@ use Rattle.ticket.proofs.Meanings.{inside-one, line-place}
 pub refused-alters-nothing : (s : State) (i b : ℕ) → Refused-alters-nothing ticket s i b
 refused-alters-nothing s i b =
     record {
-      lays = layout-refused ticket laid-out (λ s n m a. refl) s;
+      lays = layout-refused ticket laid-out (λ s z a. refl) s;
       asks = ask (ask-view s i b);
       pushes = push (push-view s i b);
       leaves = leave (leave-view s i b);
@@ -85,17 +83,15 @@ calls-keep-sizes s i b =
     leave (leave-out c C n e) = rw e (record { sizes = refl; fit = simp length-set })
 
 pub unfit-is-refused :
-    (s : State) (i b : ℕ) → fitting nodes-for s (sessions-of s) (bins-of s) ≡ false → Unfit-is-refused ticket s i b
+    (s : State) (i b : ℕ) → fitting nodes-for s (s .bank .sizes) ≡ false → Unfit-is-refused ticket s i b
 unfit-is-refused s i b e =
-    let n = sessions-of s in
-    let m = bins-of s in
-    let own = own-unfit 0 n m (s .memory) i b e in
+    let own = own-unfit 0 (s .bank .sizes) (s .memory) i b e in
     record {
       asks = ap (λ o. asks-own o s i b .answer) own;
       pushes = ap (λ o. pushes-own o s i b .answer) own;
       leaves = ap (λ o. leaves-own o s i b .answer) own;
-      peeks = ap (λ a. peeks-word a (lawful-word s b)) (bin-unfit 0 n m (s .memory) b e);
-      counts = ap (λ a. counts-own a (record-of s i) s i) (session-unfit 0 n m (s .memory) i e);
+      peeks = ap (λ a. peeks-word a (lawful-word s b)) (bin-unfit 0 (s .bank .sizes) (s .memory) b e);
+      counts = ap (λ a. counts-own a (record-of s i) s i) (session-unfit 0 (s .bank .sizes) (s .memory) i e);
     }
 
 -- IN A REACHED STATE
@@ -148,23 +144,22 @@ module _ (s : State) (i b : ℕ) (I : Invariant s) (hi : i < sessions-of s) (hb 
 pub ask-rule : (s : State) (i b : ℕ) → Invariant s → Ask-rule ticket s i b
 ask-rule s i b I =
     record {
-      no-session = λ h. rw (own-no-session 0 (sessions-of s) (bins-of s) (s .memory) i b (I .fit) h);
-      no-bin = λ h k. rw (own-no-bin 0 (sessions-of s) (bins-of s) (s .memory) i b (I .fit) h k);
+      no-session = λ h. rw (own-no-session 0 (s .bank .sizes) (s .memory) i b (I .fit) h);
+      no-bin = λ h k. rw (own-no-bin 0 (s .bank .sizes) (s .memory) i b (I .fit) h k);
       asker =
           λ h k c l e.
           let v = asker-claim s c i e in
           ap (λ (o : Outcome AskAnswer State). o .answer) (ask-reads s i b I h k (Some (v .0)) (v .1));
       granted =
           λ h k n.
-          ap (λ (o : Outcome AskAnswer State). joined (o .answer)) (ask-reads s i b I h k None (unclaimed s i I n))
-          ∙ asked-joins (eqb (next-at s b) (served-at s b));
+          ap (λ (o : Outcome AskAnswer State). isOk (o .answer)) (ask-reads s i b I h k None (unclaimed s i I n));
     }
 
 pub push-rule : (s : State) (i b : ℕ) → Invariant s → Push-rule ticket s i b
 push-rule s i b I =
     record {
-      no-session = λ h. rw (own-no-session 0 (sessions-of s) (bins-of s) (s .memory) i b (I .fit) h);
-      no-bin = λ h k. rw (own-no-bin 0 (sessions-of s) (bins-of s) (s .memory) i b (I .fit) h k);
+      no-session = λ h. rw (own-no-session 0 (s .bank .sizes) (s .memory) i b (I .fit) h);
+      no-bin = λ h k. rw (own-no-bin 0 (s .bank .sizes) (s .memory) i b (I .fit) h k);
       stranger = λ h k e. push-out-of-turn s i b I h k (record-of s i) refl (not-at not-entered (record-of s i) b e);
       inside =
           λ h k e.
@@ -187,8 +182,8 @@ push-rule s i b I =
 pub leave-rule : (s : State) (i b : ℕ) → Invariant s → Leave-rule ticket s i b
 leave-rule s i b I =
     record {
-      no-session = λ h. rw (own-no-session 0 (sessions-of s) (bins-of s) (s .memory) i b (I .fit) h);
-      no-bin = λ h k. rw (own-no-bin 0 (sessions-of s) (bins-of s) (s .memory) i b (I .fit) h k);
+      no-session = λ h. rw (own-no-session 0 (s .bank .sizes) (s .memory) i b (I .fit) h);
+      no-bin = λ h k. rw (own-no-bin 0 (s .bank .sizes) (s .memory) i b (I .fit) h k);
       not-inside = λ h k n. leave-out-of-turn s i b I h k (record-of s i) refl (not-entered-here n);
       granted =
           λ h k e.
@@ -206,13 +201,11 @@ leave-rule s i b I =
 
 pub peek-rule : (s : State) (b : ℕ) → Invariant s → Peek-rule ticket s b
 peek-rule s b I =
-    let n = sessions-of s in
-    let m = bins-of s in
     record {
-      no-bin = λ h. ap (λ a. peeks-word a (lawful-word s b)) (bin-missing 0 n m (s .memory) b (I .fit) h);
+      no-bin = λ h. ap (λ a. peeks-word a (lawful-word s b)) (bin-missing 0 (s .bank .sizes) (s .memory) b (I .fit) h);
       granted =
           λ h.
-          ap (λ a. peeks-word a (lawful-word s b)) (bin-there 0 n m (s .memory) b (I .fit) h)
+          ap (λ a. peeks-word a (lawful-word s b)) (bin-there 0 (s .bank .sizes) (s .memory) b (I .fit) h)
           ∙ ap (peeks-word (Ok tt)) (reads-word s b I h);
     }
 
@@ -228,7 +221,7 @@ counts-claim s i c I h e =
     let n = past (c .stage .ticket) (served-at s (c .bin)) in
     let few = lt-ltb n (sessions-of s) (below-all (V .drawn) (few-outstanding s (c .bin) I (V .bin))) in
     let there = lt-ltb (c .bin) (bins-of s) (V .bin) in
-    ap (λ a. counts-own a (record-of s i) s i) (session-there 0 (sessions-of s) (bins-of s) (s .memory) i (I .fit) h)
+    ap (λ a. counts-own a (record-of s i) s i) (session-there 0 (s .bank .sizes) (s .memory) i (I .fit) h)
     ∙ ap (λ r. counts-own (Ok tt) r s i) e
     ∙ ap (λ t. cond t (counts-word c (lawful-word s (c .bin)) s i) (Err (bad-record i))) there
     ∙ ap (λ w. counts-word c w s i) (reads-word s (c .bin) I (V .bin))
@@ -236,13 +229,11 @@ counts-claim s i c I h e =
 
 pub ahead-rule : (s : State) (i : ℕ) → Invariant s → Ahead-rule ticket s i
 ahead-rule s i I =
-    let n = sessions-of s in
-    let m = bins-of s in
     record {
-      no-session = λ h. ap (λ a. counts-own a (record-of s i) s i) (session-missing 0 n m (s .memory) i (I .fit) h);
+      no-session = λ h. ap (λ a. counts-own a (record-of s i) s i) (session-missing 0 (s .bank .sizes) (s .memory) i (I .fit) h);
       in-no-line =
           λ h e.
-          ap (λ a. counts-own a (record-of s i) s i) (session-there 0 n m (s .memory) i (I .fit) h)
+          ap (λ a. counts-own a (record-of s i) s i) (session-there 0 (s .bank .sizes) (s .memory) i (I .fit) h)
           ∙ ap (λ r. counts-own (Ok tt) r s i) (unclaimed s i I e);
       without-lines = λ f h. absurd (true≢false f);
       those-before = λ f h b front rest k e. counts-front h b front rest k e;

@@ -19,6 +19,7 @@ use Rattle.bank.specs.Outcome.{refused, granted}
 use Rattle.bank.specs.Refusals.{bad-word, out-of-turn}
 use Rattle.bank.specs.declared.answers.PushAnswer.the-variants.{Waits, In}
 use Rattle.bank.specs.declared.memory.Claim.{Claim}
+use Rattle.bank.specs.declared.memory.Sizes.{Sizes}
 use Rattle.bank.specs.declared.refusals.Fault.{Fault}
 use Rattle.bank.proofs.Admission.{owned, own-there}
 use Rattle.bank.proofs.Claims.{at-stage-parts}
@@ -70,7 +71,7 @@ claim-in-range s i I = go (record-of s i) refl
 
 pub reads-record :
     (s : State) (i b : ℕ) → Invariant s → i < sessions-of s → b < bins-of s → own-record s i b ≡ Ok (record-of s i)
-reads-record s i b I h k = own-there 0 (sessions-of s) (bins-of s) (s .memory) i b (I .fit) h k (claim-in-range s i I)
+reads-record s i b I h k = own-there 0 (s .bank .sizes) (s .memory) i b (I .fit) h k (claim-in-range s i I)
 
 pub reads-word : (s : State) (b : ℕ) → Invariant s → b < bins-of s → lawful-word s b ≡ Ok (word-at s b)
 reads-word s b I h = rw (le-leb (outstanding (word-at s b)) (sessions-of s) (few-outstanding s b I h))
@@ -89,13 +90,13 @@ read-cases s b = go (lawful (sessions-of s) (word-at s b)) refl
 -- what a call has found once it has read its own record
 unclaimed : (s : State) (i b : ℕ) → own-record s i b ≡ Ok None → Unclaimed s i b
 unclaimed s i b e =
-    let o = owned 0 (sessions-of s) (bins-of s) (s .memory) i b None e in
+    let o = owned 0 (s .bank .sizes) (s .memory) i b None e in
     record { session = o .admitted .session; bin = o .admitted .bin; none = o .read }
 
 claimed :
     (s : State) (i b : ℕ) (c : Claim Turn) → own-record s i b ≡ Ok (Some c) → c .bin ≡ b → Claimed s i b c
 claimed s i b c e q =
-    let o = owned 0 (sessions-of s) (bins-of s) (s .memory) i b (Some c) e in
+    let o = owned 0 (s .bank .sizes) (s .memory) i b (Some c) e in
     record { session = o .admitted .session; bin = o .admitted .bin; read = o .read; here = q }
 
 -- ASK
@@ -189,10 +190,10 @@ leave-view s i b = go (own-record s i b) refl
     go (Ok (Some c)) p = inner c p (ap (λ o. leaves-own o s i b) p) (at-stage entered b c) refl
 
 -- EVERY REACHED STATE: each call keeps the invariant
-lays-invariant : (s : State) (n m a : ℕ) → isOk (lays s n m a .answer) ≡ true → Invariant (lays s n m a .after)
-lays-invariant s n m a h =
-    let g = layout-granted ticket laid-out (λ s n m a. refl) s n m a h in
-    rw (g .2) (laid-invariant s n m a (g .0) (g .1))
+lays-invariant : (s : State) (z : Sizes) (a : ℕ) → isOk (lays s z a .answer) ≡ true → Invariant (lays s z a .after)
+lays-invariant s z a h =
+    let g = layout-granted ticket laid-out (λ s z a. refl) s z a h in
+    rw (g .2) (laid-invariant s z a (g .0) (g .1))
 
 asks-invariant : (s : State) (i b : ℕ) → Invariant s → Invariant (asks s i b .after)
 asks-invariant s i b I = go (ask-view s i b)
@@ -217,7 +218,7 @@ leaves-invariant s i b I = go (leave-view s i b)
     go (leave-out c C n e) = rw e (leave-invariant I C n)
 
 pub reached-invariant : {s : State} → Reached ticket s → Invariant s
-reached-invariant (after-layout s n m a h) = lays-invariant s n m a h
+reached-invariant (after-layout s z a h) = lays-invariant s z a h
 reached-invariant (after-ask s i b r) = asks-invariant s i b (reached-invariant r)
 reached-invariant (after-push s i b r) = pushes-invariant s i b (reached-invariant r)
 reached-invariant (after-leave s i b r) = leaves-invariant s i b (reached-invariant r)

@@ -18,17 +18,18 @@ use Rattle.bank.specs.declared.answers.LeaveAnswer.the-variants.{Out as OutAtOn
 use Rattle.bank.specs.declared.answers.PushAnswer.{PushAnswer}
 use Rattle.bank.specs.declared.answers.PushAnswer.the-variants.{Waits, In}
 use Rattle.bank.specs.declared.memory.Claim.{Claim}
+use Rattle.bank.specs.declared.memory.Sizes.{Sizes}
 use Rattle.bank.specs.declared.refusals.Fault.{Fault}
 use Rattle.ticket.specs.declared.Turn.{Turn}
 use Rattle.ticket.specs.State.{State, sessions-of, bins-of, nodes-for, turn, entered, not-entered, own-record, lawful-word}
 use Rattle.ticket.specs.Word.{next-of, served-of, word-of, after, past, calm-of}
 
 -- LAYOUT: both halves of every word show the starting age, and nobody has a claim.
-abbrev pub laid-out : State → ℕ → ℕ → ℕ → State
-laid-out s n m a = laid-with s (record { sizes = record { sessions = n; bins = m } }) (word-of a a)
+abbrev pub laid-out : State → Sizes → ℕ → State
+laid-out s z a = laid-with s (record { sizes = z }) (word-of a a)
 
-abbrev pub lays : State → ℕ → ℕ → ℕ → Outcome (Unit {0}) State
-lays s n m a = cond (fitting nodes-for s n m && ltb a 4294967296) (granted (laid-out s n m a) tt) (refused s bad-size)
+abbrev pub lays : State → Sizes → ℕ → Outcome (Unit {0}) State
+lays s z a = cond (fitting nodes-for s z && ltb a 4294967296) (granted (laid-out s z a) tt) (refused s bad-size)
 
 -- ASK: takes the next ticket n and raises that half, while v is served; in exactly when n is v.
 abbrev pub drawn : State → ℕ → ℕ → ℕ → ℕ → Outcome AskAnswer State
@@ -89,7 +90,7 @@ peeks-word (Ok u) (Err f) = Err f
 peeks-word (Ok u) (Ok w) = Ok (w, calm-of w)
 
 abbrev pub peeks : State → ℕ → Result (ℕ × Bool) Fault
-peeks s b = peeks-word (admits-bin 0 (sessions-of s) (bins-of s) (s .memory) b) (lawful-word s b)
+peeks s b = peeks-word (admits-bin 0 (s .bank .sizes) (s .memory) b) (lawful-word s b)
 
 -- AHEAD: how far the session's ticket is past the one served; 9 where that is as many as there are sessions, or more.
 abbrev pub few-ahead : ℕ → ℕ → ℕ → Result (Option ℕ) Fault
@@ -105,4 +106,4 @@ counts-own (Ok u) None s i = Ok None
 counts-own (Ok u) (Some c) s i = cond (ltb (c .bin) (bins-of s)) (counts-word c (lawful-word s (c .bin)) s i) (Err (bad-record i))
 
 abbrev pub counts : State → ℕ → Result (Option ℕ) Fault
-counts s i = counts-own (admits-session 0 (sessions-of s) (bins-of s) (s .memory) i) (record-of s i) s i
+counts s i = counts-own (admits-session 0 (s .bank .sizes) (s .memory) i) (record-of s i) s i

@@ -8,6 +8,7 @@ use Rattle.bank.specs.Locks.{Locks, word-at}
 use Rattle.bank.specs.Memory as memory
 use Rattle.bank.specs.Refusals.{bad-word}
 use Rattle.bank.specs.declared.memory.Claim.{Claim}
+use Rattle.bank.specs.declared.memory.Sizes.{Sizes}
 use Rattle.bank.specs.declared.refusals.Fault.{Fault}
 use Rattle.ticket.specs.declared.Ticket.{Ticket}
 use Rattle.ticket.specs.declared.Turn.{Turn}
@@ -23,8 +24,8 @@ abbrev pub bins-of : State → ℕ
 bins-of s = s .bank .sizes .bins
 
 -- the kind has no nodes
-abbrev pub nodes-for : ℕ → ℕ
-nodes-for n = 0
+abbrev pub nodes-for : Sizes → ℕ
+nodes-for z = 0
 
 abbrev pub turn : ℕ → Bool → Turn
 turn t inside = record { ticket = t; inside = inside }
@@ -37,7 +38,7 @@ not-entered t = not (t .inside)
 
 -- the caller's own record, past the refusals 1, 2 and 3, or 9 at the session
 abbrev pub own-record : State → ℕ → ℕ → Result (Option (Claim Turn)) Fault
-own-record s i b = memory.own-record 0 (sessions-of s) (bins-of s) (s .memory) i b
+own-record s i b = memory.own-record 0 (s .bank .sizes) (s .memory) i b
 
 -- the lock word of a bin, or 9 at the bin
 abbrev pub lawful-word : State → ℕ → Result ℕ Fault

@@ -1,7 +1,7 @@
 // The ticket kind: a session draws the next ticket and enters when its ticket is served.
 ghost use mathlib.Core.Bool.{true};
 ghost use mathlib.Core.Path.{_≡_};
-ghost use Prim.Native.Nat.{_*_, _+_, _/_, _%_, _<_};
+ghost use Prim.Native.Nat.{_<_};
 ghost use Rattle.std.specs.Of.Vec.{vec-len};
 ghost use Rattle.bank.specs.Locks.{state};
 ghost use Rattle.ticket.specs.Word as tickets;
@@ -17,9 +17,7 @@ use bank::ClaimClone;
 use bank::Fault;
 use bank::LeaveAnswer;
 use bank::LockMemory;
-use bank::Place;
 use bank::PushAnswer;
-use bank::Reason;
 use bank::Sizes;
 use bank::SizesDefault;
 
@@ -30,6 +28,7 @@ pub struct Turn {
     pub inside: bool,
 }
 
+// A bank of ticket locks: the sizes that layout gave it.
 #[derive(Clone, Copy, Default)]
 pub struct Ticket {
     sizes: Sizes,
@@ -92,7 +91,7 @@ impl Ticket {
     {
         let word = memory.words[bin];
         if !is_lawful(self.sizes.sessions, word) {
-            return Err(Fault::of_kind(Reason::OutOfRange, Place::Bin(bin)));
+            return Err(Fault::bad_word(bin));
         }
         Ok(word)
     }
@@ -147,7 +146,7 @@ pub impl Bank for Ticket as TicketBank {
 
     ghost counts = { calls.counts };
 
-    fn node_count(_sessions: usize) -> usize {
+    fn node_count(_sizes: Sizes) -> usize {
         NODES
     }
 
@@ -165,7 +164,8 @@ pub impl Bank for Ticket as TicketBank {
             return Err(Fault::bad_size());
         }
         self.sizes = sizes;
-        memory.words.fill(start * TICKETS + start);
+        let age = start as u32;
+        memory.words.fill(word_of(age, age));
         memory.records.fill(None);
         Ok(())
     }
@@ -252,12 +252,12 @@ pub impl Bank for Ticket as TicketBank {
             return Ok(None);
         };
         if claim.bin >= self.sizes.bins {
-            return Err(Fault::of_kind(Reason::OutOfRange, Place::Session(session)));
+            return Err(Fault::bad_record(session));
         }
         let word = self.lawful_word(memory, claim.bin)?;
         let before = past(claim.stage.ticket, served_of(word));
         if before >= self.sizes.sessions {
-            return Err(Fault::of_kind(Reason::OutOfRange, Place::Session(session)));
+            return Err(Fault::bad_record(session));
         }
         Ok(Some(before))
     }
