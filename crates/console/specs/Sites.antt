@@ -6,6 +6,7 @@ use Rattle.bank.specs.Kind.{Kind, Reached}
 use Rattle.bank.specs.KindOf.{kind-of}
 use Rattle.bank.specs.Laws.{Laid-out}
 use Rattle.bank.specs.Locks.{Locks, locks}
+use Rattle.bank.specs.Refusals.{bad-size}
 use Rattle.central.specs.contracts.CentralBank.the-impl as central
 use Rattle.central.specs.State as central-state
 use Rattle.commands.specs.Responses.{reply-of, state-after}
@@ -53,9 +54,9 @@ New name.Central z Empty = ⊥
 New name.Central z (Ticket r) = ⊥
 New name.Queuing z s = ⊥
 
--- why there is no new bank: it was refused, there is no memory, or the kind is not there yet
+-- why there is no new bank: it was refused by 1, there is no memory, or the kind is not there yet
 abbrev pub Declines : Reply → Type 0
-Declines (Refused f) = Unit {0}
+Declines (Refused f) = f ≡ bad-size
 Declines NoMemory = Unit {0}
 Declines NotNow = Unit {0}
 Declines Laid = ⊥
@@ -73,7 +74,7 @@ Made P (Err reply) = Declines reply
 -- `bank`, from one site to the next: laid, or the old site stays
 abbrev pub Starts-over : Setup → Site → Reply → Site → Type 0
 Starts-over z s Laid t = New (z .kind) z t
-Starts-over z s (Refused f) t = t ≡ s
+Starts-over z s (Refused f) t = (f ≡ bad-size) × (t ≡ s)
 Starts-over z s NoMemory t = t ≡ s
 Starts-over z s NotNow t = t ≡ s
 Starts-over z s (Answered a) t = ⊥
