@@ -1,6 +1,5 @@
 -- The state of a bank: the bank with the memory that it is lent.
 use Rattle.std.specs.Prelude.{ℕ, Bool, length, replicate, None, Option, slice_index, slice_index_or, slice_set}
-use Rattle.std.specs.Borrow.{Bor}
 use Rattle.bank.specs.declared.memory.LockMemory.{LockMemory}
 use Rattle.bank.specs.declared.memory.Node.{Node}
 use Rattle.bank.specs.declared.memory.Sizes.{Sizes}
@@ -12,10 +11,6 @@ pub record Locks (B R : Type 0) : Type 0 where
 
 abbrev pub locks : {B R : Type 0} → B → LockMemory R → Locks B R
 locks b m = record { bank = b; memory = lent m }
-
--- the same of what is lent to a call
-abbrev pub state : {B R : Type 0} → Bor B → Bor (LockMemory R) → Locks B R
-state b m = locks b.now m.now
 
 -- the memory has the lengths told for these sizes
 abbrev pub fitting : {B R : Type 0} → (Sizes → ℕ) → Locks B R → Sizes → Bool

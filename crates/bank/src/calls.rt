@@ -4,7 +4,7 @@ ghost use Rattle.bank.specs.Calls.{answer_of, state_after, lengths_told};
 ghost use Rattle.bank.specs.Kind.{Reached};
 ghost use Rattle.bank.specs.KindOf.{kind_of};
 ghost use Rattle.bank.specs.Laws.{Lawful};
-ghost use Rattle.bank.specs.Locks.{state};
+ghost use Rattle.bank.specs.Locks.{locks};
 
 use super::Bank;
 use super::answers::{Answer, Call};
@@ -32,8 +32,8 @@ fn dispatch<B: Bank>(
     session: usize,
     bin: usize,
 ) -> Result<Answer, Fault>
-    ensures answer { result ≡ answer_of (kind_of B.Bank) call (state bank.entry memory.entry) session bin }
-    ensures after { state bank.exit memory.exit ≡ state_after (kind_of B.Bank) call (state bank.entry memory.entry) session bin }
+    ensures answer { result ≡ answer_of (kind_of B.Bank) call (locks bank.old memory.old) session bin }
+    ensures after { locks bank.new memory.new ≡ state_after (kind_of B.Bank) call (locks bank.old memory.old) session bin }
 {
     match call {
         Call::Ask => Ok(Answer::Asked(bank.ask(memory, session, bin)?)),
@@ -50,9 +50,9 @@ pub fn carry_out<B: Bank>(
     session: usize,
     bin: usize,
 ) -> Result<Answer, Fault>
-    ensures answer { result ≡ answer_of (kind_of B.Bank) call (state bank.entry memory.entry) session bin }
-    ensures after { state bank.exit memory.exit ≡ state_after (kind_of B.Bank) call (state bank.entry memory.entry) session bin }
-    ensures reached { Reached (kind_of B.Bank) (state bank.entry memory.entry) → Reached (kind_of B.Bank) (state bank.exit memory.exit) }
+    ensures answer { result ≡ answer_of (kind_of B.Bank) call (locks bank.old memory.old) session bin }
+    ensures after { locks bank.new memory.new ≡ state_after (kind_of B.Bank) call (locks bank.old memory.old) session bin }
+    ensures reached { Reached (kind_of B.Bank) (locks bank.old memory.old) → Reached (kind_of B.Bank) (locks bank.new memory.new) }
     ensures laws { Lawful (kind_of B.Bank) }
 {
     dispatch(bank, memory, call, session, bin)

@@ -1,4 +1,6 @@
 // One interface before every lock kind: docs/LOCKS.md.
+#![tactic(auto)]
+
 ghost use Rattle.std.specs.Prelude.{◌≡◌, ℕ, Bool, List, Option, Result};
 ghost use Rattle.bank.specs.declared.answers.AskAnswer.{AskAnswer};
 ghost use Rattle.bank.specs.declared.answers.LeaveAnswer.{LeaveAnswer};
@@ -6,7 +8,7 @@ ghost use Rattle.bank.specs.declared.answers.PushAnswer.{PushAnswer};
 ghost use Rattle.bank.specs.declared.memory.Sizes.{Sizes};
 ghost use Rattle.bank.specs.declared.refusals.Fault.{Fault};
 ghost use Rattle.bank.specs.Outcome.{Outcome};
-ghost use Rattle.bank.specs.Locks.{Locks, state, fitting, with_bank};
+ghost use Rattle.bank.specs.Locks.{Locks, locks, fitting, with_bank};
 ghost use Rattle.bank.specs.Kind.{kind};
 ghost use Rattle.bank.specs.Laws.{Lawful};
 
@@ -100,8 +102,8 @@ pub trait Bank: Sized {
         sizes: Sizes,
         start: u64,
     ) -> Result<(), Fault>
-        ensures answer { result ≡ (lays (state self.entry memory.entry) sizes start).answer }
-        ensures after { state self.exit memory.exit ≡ (lays (state self.entry memory.entry) sizes start).after };
+        ensures answer { result ≡ (lays (locks self.old memory.old) sizes start).answer }
+        ensures after { locks self.new memory.new ≡ (lays (locks self.old memory.old) sizes start).after };
 
     // Makes a session an asker of a bin.
     fn ask(
@@ -110,8 +112,8 @@ pub trait Bank: Sized {
         session: usize,
         bin: usize,
     ) -> Result<AskAnswer, Fault>
-        ensures answer { result ≡ (asks (state self.entry memory.entry) session bin).answer }
-        ensures after { state self.exit memory.exit ≡ (asks (state self.entry memory.entry) session bin).after };
+        ensures answer { result ≡ (asks (locks self.old memory.old) session bin).answer }
+        ensures after { locks self.new memory.new ≡ (asks (locks self.old memory.old) session bin).after };
 
     // Advances an asker that is not inside.
     fn push(
@@ -120,8 +122,8 @@ pub trait Bank: Sized {
         session: usize,
         bin: usize,
     ) -> Result<PushAnswer, Fault>
-        ensures answer { result ≡ (pushes (state self.entry memory.entry) session bin).answer }
-        ensures after { state self.exit memory.exit ≡ (pushes (state self.entry memory.entry) session bin).after };
+        ensures answer { result ≡ (pushes (locks self.old memory.old) session bin).answer }
+        ensures after { locks self.new memory.new ≡ (pushes (locks self.old memory.old) session bin).after };
 
     // Takes the session inside a bin from there.
     fn leave(
@@ -130,12 +132,12 @@ pub trait Bank: Sized {
         session: usize,
         bin: usize,
     ) -> Result<LeaveAnswer, Fault>
-        ensures answer { result ≡ (leaves (state self.entry memory.entry) session bin).answer }
-        ensures after { state self.exit memory.exit ≡ (leaves (state self.entry memory.entry) session bin).after };
+        ensures answer { result ≡ (leaves (locks self.old memory.old) session bin).answer }
+        ensures after { locks self.new memory.new ≡ (leaves (locks self.old memory.old) session bin).after };
 
     // The mark of a bin and whether it is calm.
     fn peek(&self, memory: &LockMemory<Self::Record>, bin: usize) -> Result<(u64, bool), Fault>
-        ensures { result ≡ peeks (state self.entry memory.entry) bin };
+        ensures { result ≡ peeks (locks self.now memory.now) bin };
 
     // How many stand before a session in its line; none for a session in no line.
     fn ahead(
@@ -143,7 +145,7 @@ pub trait Bank: Sized {
         memory: &LockMemory<Self::Record>,
         session: usize,
     ) -> Result<Option<usize>, Fault>
-        ensures { result ≡ counts (state self.entry memory.entry) session };
+        ensures { result ≡ counts (locks self.now memory.now) session };
 
     ghost lawful: { Lawful (kind (λ s. extent s.bank) nodesfor (fitting nodesfor) (with_bank effective) modulus askers leaving inside age calm mark calmof ageof fair line needed entrypushes exitpushes lays asks pushes leaves peeks counts) };
 }

@@ -1,5 +1,7 @@
 // Times the steps of each kind at 1 and at 1,024 sessions. What was done goes to standard output, the times to standard
 // error. The argument is the number of turns; a turn is an ask, the pushes that it needs, and a leave.
+#![tactic(auto)]
+
 use anyhow::anyhow;
 use bank::{AskAnswer, Bank, Claim, Fault, LockMemory, Sizes, lengths};
 use central::{Central, Stage};

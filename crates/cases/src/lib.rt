@@ -1,4 +1,6 @@
 // Cases that the console cannot reach: memory of other lengths, damaged records, and full lines.
+#![tactic(auto)]
+
 #[cfg(test)]
 mod central_cases;
 #[cfg(test)]

@@ -1,4 +1,6 @@
 // The central kind: a session looks until the word is unlocked, and then swaps it for a locked one.
+#![tactic(auto)]
+
 ghost use Rattle.std.specs.Prelude.{◌≡◌, false, Some};
 ghost use Rattle.bank.specs.Claims.{claim, askers as asking};
 ghost use Rattle.central.specs.Word.{unlocked, lock_bit, age_of};

@@ -1,4 +1,6 @@
 // What the console does with a line: parse it, carry it out, and say what came of it.
+#![tactic(auto)]
+
 mod parser;
 mod replies;
 mod responder;

@@ -1,7 +1,7 @@
 // Carries out a command on a bank that is laid out.
 ghost use Rattle.std.specs.Prelude.{◌≡◌};
 ghost use Rattle.bank.specs.KindOf.{kind_of};
-ghost use Rattle.bank.specs.Locks.{state};
+ghost use Rattle.bank.specs.Locks.{locks};
 ghost use Rattle.commands.specs.Responses.{reply_of, state_after};
 
 use super::replies::Reply;
@@ -10,8 +10,8 @@ use bank::{Bank, LockMemory, carry_out};
 
 // The reply to a command, and what the command leaves. A command that a bank does not allow alters nothing.
 pub fn respond<B: Bank>(bank: &mut B, memory: &mut LockMemory<B::Record>, command: Command) -> Reply
-    ensures reply { result ≡ reply_of (kind_of B.Bank) (state bank.entry memory.entry) command }
-    ensures after { state bank.exit memory.exit ≡ state_after (kind_of B.Bank) (state bank.entry memory.entry) command }
+    ensures reply { result ≡ reply_of (kind_of B.Bank) (locks bank.old memory.old) command }
+    ensures after { locks bank.new memory.new ≡ state_after (kind_of B.Bank) (locks bank.old memory.old) command }
 {
     match command {
         Command::Call(call, session, bin) => match carry_out(bank, memory, call, session, bin) {

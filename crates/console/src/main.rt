@@ -1,4 +1,6 @@
 // The console: one command a line from standard input, one line of answer for each.
+#![tactic(auto)]
+
 mod site;
 #[cfg(test)]
 mod tests;

@@ -1,4 +1,6 @@
 // Worked figures, proved: what the definitions of the calls compute is what is written here.
+#![tactic(auto)]
+
 ghost use Rattle.std.specs.Prelude.{◌≡◌, [], ◌∷◌};
 ghost use Rattle.figures.specs.Computed.{computed};
 ghost use Rattle.figures.specs.Constants.{constants_told, Fairness};

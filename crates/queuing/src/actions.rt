@@ -2,7 +2,7 @@
 // one other node.
 ghost use Rattle.std.specs.Prelude.{◌≡◌, ◌<◌, Some, Ok, vec_len};
 ghost use Rattle.bank.specs.Claims.{claim};
-ghost use Rattle.bank.specs.Locks.{state};
+ghost use Rattle.bank.specs.Locks.{locks};
 ghost use Rattle.queuing.specs.Actions as actions;
 ghost use Rattle.queuing.specs.Lent.{Covers};
 ghost use Rattle.queuing.specs.State.{lawful_word, below, own_version, own_next, released};
@@ -55,7 +55,7 @@ impl Queuing {
     // What a bin's lock word says; refused by 9 at the bin if the word is not lawful.
     pub(crate) fn lawful_word(&self, memory: &Memory, bin: usize) -> Result<Word, Fault>
         requires { bin < vec_len memory.now.words }
-        ensures { result ≡ lawful_word (state self.entry memory.entry) bin }
+        ensures { result ≡ lawful_word (locks self.now memory.old) bin }
     {
         let Some(said) = Word::unpack(memory.words[bin], self.sizes.sessions) else {
             return Err(Fault::bad_word(bin));
@@ -66,7 +66,7 @@ impl Queuing {
     // The own version; refused by 9 if there is none.
     fn own_version(&self, memory: &Memory, session: usize) -> Result<u64, Fault>
         requires { Covers self.now memory.now session }
-        ensures { result ≡ own_version (state self.entry memory.entry) session }
+        ensures { result ≡ own_version (locks self.now memory.old) session }
     {
         let Some(version) = memory.nodes[session].version else {
             return Err(Fault::bad_record(session));
@@ -77,7 +77,7 @@ impl Queuing {
     // The own next; refused by 9 if there is none.
     fn own_next(&self, memory: &Memory, session: usize) -> Result<usize, Fault>
         requires { Covers self.now memory.now session }
-        ensures { result ≡ own_next (state self.entry memory.entry) session }
+        ensures { result ≡ own_next (locks self.now memory.old) session }
     {
         let Some(next) = memory.nodes[session].next else {
             return Err(Fault::bad_record(session));
@@ -88,7 +88,7 @@ impl Queuing {
     // A session that is out has no record, and its node is empty.
     fn release(&self, memory: &mut Memory, session: usize)
         requires { Covers self.now memory.old session }
-        ensures { state self.entry memory.exit ≡ released (state self.entry memory.entry) session }
+        ensures { locks self.now memory.new ≡ released (locks self.now memory.old) session }
     {
         memory.records[session] = None;
         memory.nodes[session] = EMPTY;
@@ -103,8 +103,8 @@ impl Queuing {
         old: Word,
     ) -> AskAnswer
         requires { (Covers self.now memory.old session) × (bin < vec_len memory.old.words) }
-        ensures answer { Ok result ≡ (actions.exchange old (state self.entry memory.entry) session bin).answer }
-        ensures after { state self.entry memory.exit ≡ (actions.exchange old (state self.entry memory.entry) session bin).after }
+        ensures answer { Ok result ≡ (actions.exchange old (locks self.now memory.old) session bin).answer }
+        ensures after { locks self.now memory.new ≡ (actions.exchange old (locks self.now memory.old) session bin).after }
     {
         memory.words[bin] = Word::Held(session as u16).pack();
         match old {
@@ -129,8 +129,8 @@ impl Queuing {
         before: u16,
     ) -> Result<PushAnswer, Fault>
         requires { Covers self.now memory.old session }
-        ensures answer { result ≡ (actions.link before (state self.entry memory.entry) session bin).answer }
-        ensures after { state self.entry memory.exit ≡ (actions.link before (state self.entry memory.entry) session bin).after }
+        ensures answer { result ≡ (actions.link before (locks self.now memory.old) session bin).answer }
+        ensures after { locks self.now memory.new ≡ (actions.link before (locks self.now memory.old) session bin).after }
     {
         let node = self.node_below(session, before)?;
         memory.records[session] = claimed(bin, Stage::See(before));
@@ -146,8 +146,8 @@ impl Queuing {
         bin: usize,
     ) -> Result<PushAnswer, Fault>
         requires { Covers self.now memory.old session }
-        ensures answer { result ≡ (actions.see (state self.entry memory.entry) session bin).answer }
-        ensures after { state self.entry memory.exit ≡ (actions.see (state self.entry memory.entry) session bin).after }
+        ensures answer { result ≡ (actions.see (locks self.now memory.old) session bin).answer }
+        ensures after { locks self.now memory.new ≡ (actions.see (locks self.now memory.old) session bin).after }
     {
         let own = memory.nodes[session];
         let Some(version) = own.version else {
@@ -166,8 +166,8 @@ impl Queuing {
         bin: usize,
     ) -> Result<PushAnswer, Fault>
         requires { (Covers self.now memory.old session) × (bin < vec_len memory.old.words) }
-        ensures answer { result ≡ (actions.close (state self.entry memory.entry) session bin).answer }
-        ensures after { state self.entry memory.exit ≡ (actions.close (state self.entry memory.entry) session bin).after }
+        ensures answer { result ≡ (actions.close (locks self.now memory.old) session bin).answer }
+        ensures after { locks self.now memory.new ≡ (actions.close (locks self.now memory.old) session bin).after }
     {
         self.lawful_word(memory, bin)?;
         memory.words[bin] = word::closed(memory.words[bin]);
@@ -183,8 +183,8 @@ impl Queuing {
         bin: usize,
     ) -> Result<LeaveAnswer, Fault>
         requires { Covers self.now memory.old session }
-        ensures answer { result ≡ (actions.look (state self.entry memory.entry) session bin).answer }
-        ensures after { state self.entry memory.exit ≡ (actions.look (state self.entry memory.entry) session bin).after }
+        ensures answer { result ≡ (actions.look (locks self.now memory.old) session bin).answer }
+        ensures after { locks self.now memory.new ≡ (actions.look (locks self.now memory.old) session bin).after }
     {
         let own = memory.nodes[session];
         match own.next {
@@ -205,8 +205,8 @@ impl Queuing {
         bin: usize,
     ) -> Result<PushAnswer, Fault>
         requires { (Covers self.now memory.old session) × (bin < vec_len memory.old.words) }
-        ensures answer { result ≡ (actions.try (state self.entry memory.entry) session bin).answer }
-        ensures after { state self.entry memory.exit ≡ (actions.try (state self.entry memory.entry) session bin).after }
+        ensures answer { result ≡ (actions.try (locks self.now memory.old) session bin).answer }
+        ensures after { locks self.now memory.new ≡ (actions.try (locks self.now memory.old) session bin).after }
     {
         let word = self.lawful_word(memory, bin)?;
         if !word.is_held_by(session) {
@@ -227,8 +227,8 @@ impl Queuing {
         bin: usize,
     ) -> Result<PushAnswer, Fault>
         requires { (Covers self.now memory.old session) × (bin < vec_len memory.old.words) }
-        ensures answer { result ≡ (actions.open_window (state self.entry memory.entry) session bin).answer }
-        ensures after { state self.entry memory.exit ≡ (actions.open_window (state self.entry memory.entry) session bin).after }
+        ensures answer { result ≡ (actions.open_window (locks self.now memory.old) session bin).answer }
+        ensures after { locks self.now memory.new ≡ (actions.open_window (locks self.now memory.old) session bin).after }
     {
         self.lawful_word(memory, bin)?;
         let version = self.own_version(memory, session)?;
@@ -245,8 +245,8 @@ impl Queuing {
         bin: usize,
     ) -> Result<PushAnswer, Fault>
         requires { Covers self.now memory.old session }
-        ensures answer { result ≡ (actions.await (state self.entry memory.entry) session bin).answer }
-        ensures after { state self.entry memory.exit ≡ (actions.await (state self.entry memory.entry) session bin).after }
+        ensures answer { result ≡ (actions.await (locks self.now memory.old) session bin).answer }
+        ensures after { locks self.now memory.new ≡ (actions.await (locks self.now memory.old) session bin).after }
     {
         let own = memory.nodes[session];
         let Some(next) = own.next else {
@@ -260,8 +260,8 @@ impl Queuing {
     // 9. The next node's version becomes the own one plus one, the own node is emptied, and the session is out.
     pub(crate) fn hand(&self, memory: &mut Memory, session: usize) -> Result<PushAnswer, Fault>
         requires { Covers self.now memory.old session }
-        ensures answer { result ≡ (actions.hand (state self.entry memory.entry) session).answer }
-        ensures after { state self.entry memory.exit ≡ (actions.hand (state self.entry memory.entry) session).after }
+        ensures answer { result ≡ (actions.hand (locks self.now memory.old) session).answer }
+        ensures after { locks self.now memory.new ≡ (actions.hand (locks self.now memory.old) session).after }
     {
         let next = self.own_next(memory, session)?;
         let version = self.own_version(memory, session)?;

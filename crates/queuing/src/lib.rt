@@ -1,4 +1,6 @@
 // The queuing kind: sessions line up by exchanging the lock word and hand their turns on through their nodes.
+#![tactic(auto)]
+
 ghost use Rattle.std.specs.Prelude.{true};
 ghost use Rattle.bank.specs.Claims.{askers as asking};
 ghost use Rattle.queuing.specs.Word as words;

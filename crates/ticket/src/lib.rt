@@ -1,6 +1,8 @@
 // The ticket kind: a session draws the next ticket and enters when its ticket is served.
+#![tactic(auto)]
+
 ghost use Rattle.std.specs.Prelude.{◌≡◌, ◌<◌, true, Some, vec_len};
-ghost use Rattle.bank.specs.Locks.{state};
+ghost use Rattle.bank.specs.Locks.{locks};
 ghost use Rattle.ticket.specs.Word as tickets;
 ghost use Rattle.bank.specs.Claims.{claim, askers as asking};
 ghost use Rattle.ticket.specs.State.{nodes_for, turn, lawful_word};
@@ -76,7 +78,7 @@ impl Ticket {
         bin: usize,
     ) -> Result<u64, Fault>
         requires { bin < vec_len memory.now.words }
-        ensures { result ≡ lawful_word (state self.entry memory.entry) bin }
+        ensures { result ≡ lawful_word (locks self.old memory.old) bin }
     {
         let word = memory.words[bin];
         if !is_lawful(self.sizes.sessions, word) {

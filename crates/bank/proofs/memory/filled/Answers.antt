@@ -11,7 +11,7 @@ returns g c =
     let n = c.args.n in
     let x = c.args.x in
     let all : n - 0 ≡ n = omega arith in
-    c.in-ok-resize.ensures.items
+    c.in_ok-resize.ensures.items
     ∙ ap (λ old. take n old ++ replicate (n - vec_len c.new-items.result) x) c.new-items.ensures.items
     ∙ ap (λ old. take n [] ++ replicate (n - old) x) c.new-items.ensures.len
     ∙ ap (λ front. front ++ replicate (n - 0) x) (take_none n)
