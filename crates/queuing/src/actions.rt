@@ -55,7 +55,7 @@ impl Queuing {
     // What a bin's lock word says; refused by 9 at the bin if the word is not lawful.
     pub(crate) fn lawful_word(&self, memory: &Memory, bin: usize) -> Result<Word, Fault>
         requires { bin < vec_len memory.now.words }
-        ensures { result ≡ lawful_word (locks self.now memory.old) bin }
+        ensures { result ≡ lawful_word (locks self.now memory.now) bin }
     {
         let Some(said) = Word::unpack(memory.words[bin], self.sizes.sessions) else {
             return Err(Fault::bad_word(bin));
@@ -66,7 +66,7 @@ impl Queuing {
     // The own version; refused by 9 if there is none.
     fn own_version(&self, memory: &Memory, session: usize) -> Result<u64, Fault>
         requires { Covers self.now memory.now session }
-        ensures { result ≡ own_version (locks self.now memory.old) session }
+        ensures { result ≡ own_version (locks self.now memory.now) session }
     {
         let Some(version) = memory.nodes[session].version else {
             return Err(Fault::bad_record(session));
@@ -77,7 +77,7 @@ impl Queuing {
     // The own next; refused by 9 if there is none.
     fn own_next(&self, memory: &Memory, session: usize) -> Result<usize, Fault>
         requires { Covers self.now memory.now session }
-        ensures { result ≡ own_next (locks self.now memory.old) session }
+        ensures { result ≡ own_next (locks self.now memory.now) session }
     {
         let Some(next) = memory.nodes[session].next else {
             return Err(Fault::bad_record(session));

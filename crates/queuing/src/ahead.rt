@@ -22,7 +22,7 @@ impl Queuing {
     // The session right before this one in its line; none for the first, which has a version.
     fn before(&self, memory: &Memory, session: usize) -> Result<Option<usize>, Fault>
         requires { (session < vec_len memory.now.records) × (session < vec_len memory.now.nodes) }
-        ensures value { result ≡ calls.behind (locks self.old memory.old) session }
+        ensures value { result ≡ calls.behind (locks self.now memory.now) session }
         ensures there { (p : ℕ) → result ≡ Ok (Some p) → p < self.now.sizes.sessions }
     {
         if let Some(version) = memory.nodes[session].version {
@@ -42,7 +42,7 @@ impl Queuing {
         session: usize,
     ) -> Result<Option<usize>, Fault>
         requires { (session < self.now.sizes.sessions) × ((self.now.sizes.sessions ≤ vec_len memory.now.records) × (self.now.sizes.sessions ≤ vec_len memory.now.nodes)) }
-        ensures { result ≡ calls.counted self.now.sizes.sessions (locks self.old memory.old) session session 0 }
+        ensures { result ≡ calls.counted self.now.sizes.sessions (locks self.now memory.now) session session 0 }
     {
         let mut at = session;
         for count in 0..self.sizes.sessions {

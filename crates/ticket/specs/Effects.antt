@@ -3,7 +3,7 @@ use Rattle.std.specs.Prelude.{◌≡◌, ℕ, suc, ◌%◌, ◌<◌, ◌≤◌, 
 use Rattle.std.proofs.Common.{sym, ap, ◌∙◌, arith}
 use Rattle.std.proofs.lemmas.List.{get_or-set_other}
 use Rattle.std.proofs.lemmas.Bool.{eq-eqb, ne_eqb, and_right, true≢false}
-use Rattle.bank.specs.Claims.{passes, at, at_stage, askers, claim}
+use Rattle.bank.specs.Claims.{passes, at, at_stage, claim}
 use Rattle.bank.specs.Kind.{Same, Entry, NoEntry, has}
 use Rattle.bank.specs.Laws.{AskEffect, PushEffect, LeaveEffect, FairAsk, FairPush, FairLeave}
 use Rattle.bank.specs.Locks.{word_at, record_of, with_record}

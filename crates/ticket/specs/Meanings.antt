@@ -12,7 +12,7 @@ use Rattle.bank.proofs.Askers.{one_bin, asker_session, asker_in_range}
 use Rattle.bank.proofs.Claims.{found_replicate, asker_claim, claim_asker, inside_claim, nobody_inside, one_inside}
 use Rattle.bank.proofs.Layouts.{layout_granted}
 use Rattle.ticket.specs.declared.Turn.{Turn}
-use Rattle.ticket.specs.Word.{served_of, after, past}
+use Rattle.ticket.specs.Word.{served_of, past}
 use Rattle.ticket.specs.State.{State, bins_of, entered}
 use Rattle.ticket.specs.Meaning.{inside, age_with, calm, holds, listed, holders, line}
 use Rattle.ticket.specs.Calls.{laid_out, lays}

@@ -7,7 +7,7 @@ use Rattle.bank.specs.Claims.{passes, at_stage, askers}
 use Rattle.bank.specs.Laws.{RefusedAltersNothing, Kept, CallsKeepSizes, UnfitIsRefused, AskRule, PushRule, LeaveRule, PeekRule, AheadRule}
 use Rattle.bank.specs.Locks.{fitting, word_at, record_of}
 use Rattle.bank.specs.Outcome.{Outcome}
-use Rattle.bank.specs.Refusals.{no_session, no_bin, bad_record, out_of_turn}
+use Rattle.bank.specs.Refusals.{bad_record, out_of_turn}
 use Rattle.bank.specs.declared.answers.AskAnswer.{AskAnswer}
 use Rattle.bank.specs.declared.answers.LeaveAnswer.{LeaveAnswer}
 use Rattle.bank.specs.declared.answers.PushAnswer.{PushAnswer}

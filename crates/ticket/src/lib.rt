@@ -78,7 +78,7 @@ impl Ticket {
         bin: usize,
     ) -> Result<u64, Fault>
         requires { bin < vec_len memory.now.words }
-        ensures { result ≡ lawful_word (locks self.old memory.old) bin }
+        ensures { result ≡ lawful_word (locks self.now memory.now) bin }
     {
         let word = memory.words[bin];
         if !is_lawful(self.sizes.sessions, word) {
