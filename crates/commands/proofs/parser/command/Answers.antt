@@ -2,76 +2,62 @@ use Rattle.commands.specs.Syntax.{texts}
 use Rattle.commands.proofs.Keywords.{lacking, verbs}
 use Rattle.commands.proofs.parser.command.Goals as goal
 
-pub returns-in-err-laid : goal.returns-in-err-laid
-returns-in-err-laid c =
-    lacking verbs (texts c.args.words.now) c.in-Layout.is c.from-residual.ensures c.in-err-laid.ensures
+pub returns-in_err-laid-in-Layout : goal.returns-in_err-laid-in-Layout
+returns-in_err-laid-in-Layout c =
+    lacking verbs (texts c.args.words.now) c.in-Layout.is c.from_residual.ensures c.in_err-laid-in-Layout.ensures
 
-pub returns-in-err-laid-2 : goal.returns-in-err-laid-2
-returns-in-err-laid-2 c =
-    lacking verbs (texts c.args.words.now) c.in-Bank.is c.from-residual-in-err-laid-2.ensures
-    c.in-err-laid-2.ensures
+pub returns-in_err-laid-in-Bank : goal.returns-in_err-laid-in-Bank
+returns-in_err-laid-in-Bank c =
+    lacking verbs (texts c.args.words.now) c.in-Bank.is c.from_residual-in_err-laid-in-Bank.ensures c.in_err-laid-in-Bank.ensures
 
-pub returns-in-err-bin : goal.returns-in-err-bin
-returns-in-err-bin c =
-    lacking verbs (texts c.args.words.now) c.in-Load.is c.from-residual-in-err-bin.ensures
-    c.in-err-bin.ensures
+pub returns-in_err-bin-in-Load : goal.returns-in_err-bin-in-Load
+returns-in_err-bin-in-Load c =
+    lacking verbs (texts c.args.words.now) c.in-Load.is c.from_residual-in_err-bin-in-Load.ensures c.in_err-bin-in-Load.ensures
 
-pub returns-in-err-end : goal.returns-in-err-end
-returns-in-err-end c =
-    lacking verbs (texts c.args.words.now) c.in-Open.is c.from-residual-in-err-end.ensures
-    c.in-err-end.ensures
+pub returns-in_err-end-in-Open : goal.returns-in_err-end-in-Open
+returns-in_err-end-in-Open c =
+    lacking verbs (texts c.args.words.now) c.in-Open.is c.from_residual-in_err-end-in-Open.ensures c.in_err-end-in-Open.ensures
 
-pub returns-in-err-session : goal.returns-in-err-session
-returns-in-err-session c =
-    lacking verbs (texts c.args.words.now) c.in-Begin.is c.from-residual-in-err-session.ensures
-    c.in-err-session.ensures
+pub returns-in_err-session-in-Begin : goal.returns-in_err-session-in-Begin
+returns-in_err-session-in-Begin c =
+    lacking verbs (texts c.args.words.now) c.in-Begin.is c.from_residual-in_err-session-in-Begin.ensures c.in_err-session-in-Begin.ensures
 
-pub returns-in-err-one : goal.returns-in-err-one
-returns-in-err-one c =
-    lacking verbs (texts c.args.words.now) c.in-Step.is c.from-residual-in-err-one.ensures
-    c.in-err-one.ensures
+pub returns-in_err-one-in-Step : goal.returns-in_err-one-in-Step
+returns-in_err-one-in-Step c =
+    lacking verbs (texts c.args.words.now) c.in-Step.is c.from_residual-in_err-one-in-Step.ensures c.in_err-one-in-Step.ensures
 
-pub returns-in-err-one-2 : goal.returns-in-err-one-2
-returns-in-err-one-2 c =
-    lacking verbs (texts c.args.words.now) c.in-Collect.is c.from-residual-in-err-one-2.ensures
-    c.in-err-one-2.ensures
+pub returns-in_err-one-in-Collect : goal.returns-in_err-one-in-Collect
+returns-in_err-one-in-Collect c =
+    lacking verbs (texts c.args.words.now) c.in-Collect.is c.from_residual-in_err-one-in-Collect.ensures c.in_err-one-in-Collect.ensures
 
-pub returns-in-err-one-3 : goal.returns-in-err-one-3
-returns-in-err-one-3 c =
-    lacking verbs (texts c.args.words.now) c.in-Ahead.is c.from-residual-in-err-one-3.ensures
-    c.in-err-one-3.ensures
+pub returns-in_err-one-in-Ahead : goal.returns-in_err-one-in-Ahead
+returns-in_err-one-in-Ahead c =
+    lacking verbs (texts c.args.words.now) c.in-Ahead.is c.from_residual-in_err-one-in-Ahead.ensures c.in_err-one-in-Ahead.ensures
 
-pub returns-in-err-one-4 : goal.returns-in-err-one-4
-returns-in-err-one-4 c =
-    lacking verbs (texts c.args.words.now) c.in-Peek.is c.from-residual-in-err-one-4.ensures
-    c.in-err-one-4.ensures
+pub returns-in_err-one-in-Peek : goal.returns-in_err-one-in-Peek
+returns-in_err-one-in-Peek c =
+    lacking verbs (texts c.args.words.now) c.in-Peek.is c.from_residual-in_err-one-in-Peek.ensures c.in_err-one-in-Peek.ensures
 
-pub returns-in-err-one-5 : goal.returns-in-err-one-5
-returns-in-err-one-5 c =
-    lacking verbs (texts c.args.words.now) c.in-Read.is c.from-residual-in-err-one-5.ensures
-    c.in-err-one-5.ensures
+pub returns-in_err-one-in-Read : goal.returns-in_err-one-in-Read
+returns-in_err-one-in-Read c =
+    lacking verbs (texts c.args.words.now) c.in-Read.is c.from_residual-in_err-one-in-Read.ensures c.in_err-one-in-Read.ensures
 
-pub returns-in-err-one-6 : goal.returns-in-err-one-6
-returns-in-err-one-6 c =
-    lacking verbs (texts c.args.words.now) c.in-Word.is c.from-residual-in-err-one-6.ensures
-    c.in-err-one-6.ensures
+pub returns-in_err-one-in-Word : goal.returns-in_err-one-in-Word
+returns-in_err-one-in-Word c =
+    lacking verbs (texts c.args.words.now) c.in-Word.is c.from_residual-in_err-one-in-Word.ensures c.in_err-one-in-Word.ensures
 
-pub returns-in-err-one-7 : goal.returns-in-err-one-7
-returns-in-err-one-7 c =
-    lacking verbs (texts c.args.words.now) c.in-Node.is c.from-residual-in-err-one-7.ensures
-    c.in-err-one-7.ensures
+pub returns-in_err-one-in-Node : goal.returns-in_err-one-in-Node
+returns-in_err-one-in-Node c =
+    lacking verbs (texts c.args.words.now) c.in-Node.is c.from_residual-in_err-one-in-Node.ensures c.in_err-one-in-Node.ensures
 
-pub returns-in-err-end-2 : goal.returns-in-err-end-2
-returns-in-err-end-2 c =
-    lacking verbs (texts c.args.words.now) c.in-Close.is c.from-residual-in-err-end-2.ensures
-    c.in-err-end-2.ensures
+pub returns-in_err-end-in-Close : goal.returns-in_err-end-in-Close
+returns-in_err-end-in-Close c =
+    lacking verbs (texts c.args.words.now) c.in-Close.is c.from_residual-in_err-end-in-Close.ensures c.in_err-end-in-Close.ensures
 
-pub returns-in-err-session-2 : goal.returns-in-err-session-2
-returns-in-err-session-2 c =
-    lacking verbs (texts c.args.words.now) c.in-Call.is c.from-residual-in-err-session-2.ensures
-    c.in-err-session-2.ensures
+pub returns-in_err-session-in-Call : goal.returns-in_err-session-in-Call
+returns-in_err-session-in-Call c =
+    lacking verbs (texts c.args.words.now) c.in-Call.is c.from_residual-in_err-session-in-Call.ensures c.in_err-session-in-Call.ensures
 
-pub returns-in-err-bin-2 : goal.returns-in-err-bin-2
-returns-in-err-bin-2 c =
-    lacking verbs (texts c.args.words.now) c.in-Poke.is c.from-residual-in-err-bin-2.ensures
-    c.in-err-bin-2.ensures
+pub returns-in_err-bin-in-Poke : goal.returns-in_err-bin-in-Poke
+returns-in_err-bin-in-Poke c =
+    lacking verbs (texts c.args.words.now) c.in-Poke.is c.from_residual-in_err-bin-in-Poke.ensures c.in_err-bin-in-Poke.ensures

@@ -2,11 +2,10 @@ use Rattle.commands.specs.Syntax.{texts}
 use Rattle.commands.proofs.Keywords.{lacking, places}
 use Rattle.commands.proofs.parser.poke_of.Goals as goal
 
-pub returns-in-err-bin : goal.returns-in-err-bin
-returns-in-err-bin c =
-    lacking places (texts c.args.words.now) c.in-Word.is c.from-residual.ensures c.in-err-bin.ensures
+pub returns-in_err-bin-in-Word : goal.returns-in_err-bin-in-Word
+returns-in_err-bin-in-Word c =
+    lacking places (texts c.args.words.now) c.in-Word.is c.from_residual.ensures c.in_err-bin-in-Word.ensures
 
-pub returns-in-err-bin-2 : goal.returns-in-err-bin-2
-returns-in-err-bin-2 c =
-    lacking places (texts c.args.words.now) c.in-Bin.is c.from-residual-in-err-bin-2.ensures
-    c.in-err-bin-2.ensures
+pub returns-in_err-bin-in-Bin : goal.returns-in_err-bin-in-Bin
+returns-in_err-bin-in-Bin c =
+    lacking places (texts c.args.words.now) c.in-Bin.is c.from_residual-in_err-bin-in-Bin.ensures c.in_err-bin-in-Bin.ensures
