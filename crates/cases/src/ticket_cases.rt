@@ -1,5 +1,6 @@
 // Damaged records of the ticket kind: which number, layer and place each call gives.
 use bank::{Bank, Call, Claim, Fault, Lengths, LockMemory, Place, Reason, Sizes, carry_out};
+use std::process::Abort;
 use std::test::*;
 use ticket::{Ticket, Turn};
 
@@ -10,7 +11,7 @@ fn claim(bin: usize, ticket: u32, inside: bool) -> Option<Claim<Turn>> {
 
 // A bank of three sessions and two bins with this word at bin 0 and this record of session 0.
 fn damaged(
-    rt: &HostRuntime,
+    rt: &(impl Abort + AllocGlobal),
     word: u64,
     record: Option<Claim<Turn>>,
 ) -> Result<(Ticket, LockMemory<Option<Claim<Turn>>>), Fail> {
@@ -25,8 +26,8 @@ fn damaged(
     };
     let mut memory = LockMemory::<Option<Claim<Turn>>>::allocate(rt.alloc(), lengths, None)?;
     let mut bank = Ticket::default();
-    assert!(bank.layout(&mut memory, sizes, 0).is_ok());
-    assert!(memory.words.len() > 0 && memory.records.len() > 0);
+    assert!(rt; bank.layout(&mut memory, sizes, 0).is_ok());
+    assert!(rt; memory.words.len() > 0 && memory.records.len() > 0);
     memory.words[0] = word;
     memory.records[0] = record;
     Ok((bank, memory))
@@ -34,7 +35,7 @@ fn damaged(
 
 // What a call of session 0 at bin 0 is refused by.
 fn refusal(
-    rt: &HostRuntime,
+    rt: &(impl Abort + AllocGlobal),
     word: u64,
     record: Option<Claim<Turn>>,
     call: Call,

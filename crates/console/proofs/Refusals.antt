@@ -1,5 +1,5 @@
 -- Layout is refused by 1 at T0 and by nothing else.
-use Rattle.std.proofs.Common.{◌≡◌, ℕ, Bool, true, false, is_ok, Ok, Err, Result, sym, refl, ap, ◌∙◌, ⊎_elim}
+use Rattle.std.proofs.Common.{◌≡◌, ℕ, Bool, true, false, is_ok, Err, Result, sym, refl, ap, ◌∙◌, ⊎_elim}
 use Rattle.std.proofs.lemmas.Bool.{true≢false, cases_lt}
 use Rattle.bank.specs.Kind.{Kind}
 use Rattle.bank.specs.Laws.{LayoutRule}

@@ -3,7 +3,7 @@ use Rattle.std.specs.Prelude.{◌≡◌, Ok, Err, Result}
 use Rattle.bank.specs.Kind.{Kind, Reached}
 use Rattle.bank.specs.KindOf.{kind_of}
 use Rattle.bank.specs.Laws.{LaidOut}
-use Rattle.bank.specs.Locks.{Locks, locks}
+use Rattle.bank.specs.Locks.{locks}
 use Rattle.bank.specs.Refusals.{bad_size}
 use Rattle.central.specs.contracts.CentralBank.TheImpl as central
 use Rattle.central.specs.State as central_state
@@ -15,7 +15,6 @@ use Rattle.commands.specs.declared.syntax.Command.TheVariants as command
 use Rattle.commands.specs.declared.syntax.KindName.{KindName}
 use Rattle.commands.specs.declared.syntax.KindName.TheVariants as name
 use Rattle.commands.specs.declared.syntax.Setup.{Setup}
-use Rattle.console.specs.declared.site.LaidBank.{LaidBank}
 use Rattle.console.specs.declared.site.Site.{Site}
 use Rattle.console.specs.declared.site.Site.TheVariants.{Empty, Ticket, Central}
 use Rattle.ticket.specs.contracts.TicketBank.TheImpl as ticket

@@ -1,21 +1,27 @@
 // Scripts: each line with the answer that it must get.
 use super::answer;
 use super::site::Site;
+use std::process::Abort;
 use std::test::*;
 
 type Script<'a> = &'a [(&'a str, &'a str)];
 
-fn replies(rt: &HostRuntime, site: &mut Site, line: &[u8], expected: &str) -> Result<(), Fail> {
+fn replies(
+    rt: &(impl Abort + AllocGlobal),
+    site: &mut Site,
+    line: &[u8],
+    expected: &str,
+) -> Result<(), Fail> {
     let reply = answer(rt.alloc(), site, line);
     let text = reply.to_string(rt.alloc())?;
-    assert_eq!(text.as_str(), expected);
+    assert_eq!(rt; text.as_str(), expected, "at {line:?}");
     Ok(())
 }
 
-fn play(rt: &HostRuntime, script: Script) -> Result<(), Fail> {
+fn play(rt: &(impl Abort + AllocGlobal), script: Script) -> Result<(), Fail> {
     let mut site = Site::Empty;
     for (line, expected) in script {
-        replies(rt, &mut site, line.as_bytes(), expected).note(line)?;
+        replies(rt, &mut site, line.as_bytes(), expected)?;
     }
     Ok(())
 }

@@ -14,7 +14,7 @@ use Rattle.bank.proofs.Claims.{passes_set, found_set, write_cases}
 use Rattle.queuing.specs.declared.Stage.{Stage}
 use Rattle.queuing.specs.declared.word.Word.{Word}
 use Rattle.queuing.specs.declared.word.Word.TheVariants.{Free, Held, Window}
-use Rattle.queuing.specs.Meaning.{age_with, age_from, age, version_or_zero}
+use Rattle.queuing.specs.Meaning.{age_with, age_from, version_or_zero}
 use Rattle.queuing.specs.State.{State, sessions_of, bins_of, entered, has_left}
 use Rattle.queuing.specs.Word.{calm_of}
 use Rattle.queuing.specs.Invariant.{Bin, Invariant, lengths, line_is}

@@ -2,7 +2,7 @@
 use Rattle.std.specs.Prelude.{◌≡◌, ℕ, ◌^◌, ◌<◌, Bool, true, false, cond, ◌⊎◌, List, [], ◌∷◌, Some, None, ◌==◌, ◌≢◌, refl}
 use Rattle.std.proofs.Common.{inl, inr, ⊎_elim, sym, ap, subst, ◌∙◌}
 use Rattle.std.proofs.lemmas.Bool.{true≢false, false≢true, and_right}
-use Rattle.bank.specs.Claims.{passes, at, at_stage, askers, claim}
+use Rattle.bank.specs.Claims.{passes, at_stage, askers, claim}
 use Rattle.bank.specs.Kind.{has}
 use Rattle.bank.specs.Laws.{BinMeaning, AskerExists, LineMeaning}
 use Rattle.bank.specs.Locks.{word_at, record_of, node_of}

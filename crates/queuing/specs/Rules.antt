@@ -6,7 +6,7 @@ use Rattle.std.proofs.lemmas.Bool.{eq-eqb, lt-ltb, true≢false, false≢true, c
 use Rattle.bank.specs.Claims.{passes, at, at_stage, askers, claim}
 use Rattle.bank.specs.Laws.{AskRule, PushRule, LeaveRule, PeekRule, AheadRule}
 use Rattle.bank.specs.Locks.{word_at, record_of, node_of}
-use Rattle.bank.specs.Outcome.{Outcome, granted}
+use Rattle.bank.specs.Outcome.{Outcome}
 use Rattle.bank.specs.Refusals.{out_of_turn}
 use Rattle.bank.specs.declared.answers.PushAnswer.{PushAnswer}
 use Rattle.bank.specs.declared.memory.Claim.{Claim}
@@ -20,7 +20,7 @@ use Rattle.queuing.specs.declared.word.Word.TheVariants.{Free, Held, Window}
 use Rattle.queuing.specs.Actions.{exchange, see_own, try_word, look_own, await_own}
 use Rattle.queuing.specs.Calls.{pushes, pushes_at, leaves, counts, counted}
 use Rattle.queuing.specs.Meaning.{inside, line}
-use Rattle.queuing.specs.State.{State, sessions_of, bins_of, entered, own_record, lawful, lawful_word, below, own_version}
+use Rattle.queuing.specs.State.{State, sessions_of, bins_of, entered, own_record, lawful, lawful_word, own_version}
 use Rattle.queuing.specs.Word.{held_by, versions}
 use Rattle.queuing.specs.Invariant.{Bin, Invariant, member_there, short, said_is, line_is}
 use Rattle.queuing.specs.Kind.{queuing}
