@@ -14,7 +14,7 @@ fn replies(
 ) -> Result<(), Fail> {
     let reply = answer(rt.alloc(), site, line);
     let text = reply.to_string(rt.alloc())?;
-    assert_eq!(rt; text.as_str(), expected, "at {line:?}");
+    assert_eq!(rt; text.as_str(), expected, "at {}", line.escape_ascii());
     Ok(())
 }
 
