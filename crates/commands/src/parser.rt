@@ -2,7 +2,7 @@
 ghost use Rattle.std.specs.Prelude.{◌≡◌, ◌∷◌, Some};
 ghost use Rattle.commands.specs.Syntax.{texts, kind_text, End, One, Two, Laid, Four, Works, Reads, ReadAs};
 ghost use Rattle.commands.specs.Readers.{Named, verb_text, job_text, place_text, setup_of, bin_words_of, Change, Worded, Led, Pokes};
-ghost use Rattle.commands.specs.Numbers.{digit_of, with_digit, read_on, well_formed, lock_word, number as decimal-number, word32 as word, positive_amount, negative_amount, amount as signed-amount};
+ghost use Rattle.commands.specs.Numbers.{digit_of, with_digit, read_on, well_formed, lock_word, number as decimal_number, word32 as word, positive_amount, negative_amount, amount as signed_amount};
 
 use super::syntax::{BinWords, Command, Job, KindName, Setup};
 use bank::{Call, Sizes};
@@ -54,7 +54,7 @@ fn is_well_formed(text: &[u8]) -> bool
 
 // A number in decimal digits, without sign and without leading zeros, below 2^64.
 fn number(text: &[u8]) -> Option<u64>
-    ensures { result ≡ decimal-number text.now }
+    ensures { result ≡ decimal_number text.now }
 {
     if !is_well_formed(text) {
         return None;
@@ -64,7 +64,7 @@ fn number(text: &[u8]) -> Option<u64>
 
 // A session's or a bin's number, or a size.
 fn index(text: &str) -> Option<usize>
-    ensures { result ≡ decimal-number text.now }
+    ensures { result ≡ decimal_number text.now }
 {
     Some(number(text.as_bytes())? as usize)
 }
@@ -82,7 +82,7 @@ fn word32(text: &str) -> Option<u32>
 
 // A signed 32-bit number, a minus sign directly before its digits; zero has no sign.
 fn amount(text: &str) -> Option<i32>
-    ensures { result ≡ signed-amount text.now }
+    ensures { result ≡ signed_amount text.now }
 {
     let bytes = text.as_bytes();
     if bytes.len() > 0 && bytes[0] == b'-' {
@@ -93,7 +93,7 @@ fn amount(text: &str) -> Option<i32>
 }
 
 fn positive(digits: &[u8]) -> Option<i32>
-    ensures { result ≡ positive_amount (decimal-number digits.now) }
+    ensures { result ≡ positive_amount (decimal_number digits.now) }
 {
     let value = number(digits)?;
     if value > 2147483647 {
@@ -103,7 +103,7 @@ fn positive(digits: &[u8]) -> Option<i32>
 }
 
 fn negative(digits: &[u8]) -> Option<i32>
-    ensures { result ≡ negative_amount (decimal-number digits.now) }
+    ensures { result ≡ negative_amount (decimal_number digits.now) }
 {
     let value = number(digits)?;
     if value == 0 || value > 2147483648 {
@@ -134,7 +134,7 @@ fn kind_name(text: &str) -> Option<KindName>
 }
 
 fn setup(kind: Option<KindName>, sessions: &str, bins: &str, start: &str) -> Option<Setup>
-    ensures { result ≡ setup_of kind (decimal-number sessions.now) (decimal-number bins.now) (decimal-number start.now) }
+    ensures { result ≡ setup_of kind (decimal_number sessions.now) (decimal_number bins.now) (decimal_number start.now) }
 {
     let kind = kind?;
     let sessions = index(sessions)?;
