@@ -1,9 +1,10 @@
 -- What the checks of a call show, and when they pass.
-use Rattle.std.proofs.Common.{◌≡◌, ℕ, ◌<◌, ◌≤◌, Bool, true, false, cond, length, get_or, None, Ok, Err, Option, Result, sym, refl, ap, ◌∙◌, arith}
-use Rattle.std.proofs.lemmas.Bool.{lt-ltb, le-ltb}
+use Rattle.std.proofs.Common.{◌≡◌, ℕ, ◌<◌, ◌≤◌, Bool, true, false, cond, length, get_or, Some, None, Ok, Err, Option, Result, sym, refl, ap, ◌∙◌, arith}
+use Rattle.std.proofs.lemmas.Bool.{lt-ltb, le-ltb, eqb-true, cond_both}
 use Rattle.std.proofs.lemmas.Bool.Decides.{nat_tests}
-use Rattle.bank.specs.Memory.{Lent, has_lengths, admits, admits_session, admits_bin, in_range, checked_record, own_record}
-use Rattle.bank.specs.Refusals.{bad_size, no_session, no_bin, bad_record}
+use Rattle.bank.specs.Claims.{claim, at}
+use Rattle.bank.specs.Memory.{Lent, has_lengths, admits, admits_session, admits_bin, in_range, checked_record, own_record, stage_at, own_stage}
+use Rattle.bank.specs.Refusals.{bad_size, no_session, no_bin, bad_record, out_of_turn}
 use Rattle.bank.specs.declared.memory.Claim.{Claim}
 use Rattle.bank.specs.declared.memory.Sizes.{Sizes}
 use Rattle.bank.specs.declared.refusals.Fault.{Fault}
@@ -101,3 +102,30 @@ module _ {T : Type 0} (told : ℕ) (z : Sizes) (mem : Lent (Option (Claim T))) w
       (i b : ℕ) → has_lengths told z mem ≡ true → i < z.sessions → b < z.bins →
       in_range z.bins (get_or mem.records i None) ≡ true → own_record told z mem i b ≡ Ok (get_or mem.records i None)
   own_there i b e h k q = rw (e, lt-ltb i z.sessions h, lt-ltb b z.bins k, q)
+
+  -- a call past the refusals 1, 2 and 3 of a session at stage g at the bin
+  pub record At (i b : ℕ) (g : T) : Type 0 where
+    pub admitted : Admitted told z mem i b
+    pub read : get_or mem.records i None ≡ Some (claim b g)
+
+  pub at_stage_of : {i b : ℕ} {c : Claim T} → Own i b (Some c) → c.bin ≡ b → At i b c.stage
+  at_stage_of {c = c} o e = record { admitted = o.admitted; read = o.read ∙ ap (λ x. Some (claim x c.stage)) e }
+
+  -- what is read of the caller's stage, or the call is refused
+  pub stage_cases :
+      (i b : ℕ) (P : Result T Fault → Type 0) → ((g : T) → At i b g → P (Ok g)) → ((f : Fault) → P (Err f)) →
+      P (own_stage told z mem i b)
+  stage_cases i b P present absent = go (own_record told z mem i b) refl
+    where
+      go : (a : Result (Option (Claim T)) Fault) → own_record told z mem i b ≡ a → P (stage_at a i b)
+      go (Err f) e = absent f
+      go (Ok None) e = absent (out_of_turn i)
+      go (Ok (Some c)) e =
+          let o = owned i b (Some c) e in
+          cond_both
+          (at b c)
+          _
+          _
+          P
+          (λ q. present c.stage (at_stage_of o (eqb-true c.bin b q)))
+          (λ q. absent (out_of_turn i))

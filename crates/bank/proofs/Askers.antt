@@ -1,5 +1,6 @@
 -- The askers of a bin, for any kind whose sessions have claims: whose they are, when they stay, and how one joins or goes.
 use Rattle.std.proofs.Common.{◌≡◌, ℕ, ◌<◌, Bool, true, false, not, ◌&&◌, ◌||◌, eqb, List, length, get_or, set, Some, None, Option, sym, refl, ap, ◌∙◌, ⊎_elim, arith}
+use Rattle.std.proofs.lemmas.Option.{same_Some}
 use Rattle.std.proofs.lemmas.List.{get_or_past}
 use Rattle.std.proofs.lemmas.Bool.{ltb-true, eq-eqb, ne_eqb, and_left, true≢false, cases_lt}
 use Rattle.bank.specs.Claims.{passes, at, at_stage, askers, inside}
@@ -8,7 +9,7 @@ use Rattle.bank.specs.Memory.{has_lengths, in_range}
 use Rattle.bank.specs.declared.memory.Claim.{Claim}
 use Rattle.bank.specs.declared.memory.Sizes.{Sizes}
 use Rattle.bank.proofs.Admission.{sized}
-use Rattle.bank.proofs.Claims.{some_same, some_none, passes_set, found_set, write_cases, asker_claim, claim_asker}
+use Rattle.bank.proofs.Claims.{some_none, passes_set, found_set, write_cases, asker_claim, claim_asker}
 
 -- one who asks at two bins asks at one
 pub one_bin :
@@ -16,7 +17,7 @@ pub one_bin :
 one_bin {B} {T} s b c i p q =
     let v = asker_claim s b i p in
     let w = asker_claim s c i q in
-    sym w.2 ∙ ap (λ (x : Claim T). x.bin) (some_same w.0 v.0 (sym w.1 ∙ v.1)) ∙ v.2
+    sym w.2 ∙ ap (λ (x : Claim T). x.bin) (same_Some w.0 v.0 (sym w.1 ∙ v.1)) ∙ v.2
 
 -- an asker's session and bin are there
 pub asker_session :

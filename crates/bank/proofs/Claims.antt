@@ -1,20 +1,14 @@
 -- Records that pass a test, a record that is replaced, and the claims of the sessions.
 use Rattle.std.proofs.Common.{◌≡◌, ℕ, zero, suc, ◌+◌, ◌<◌, Bool, true, false, cond, eqb, ◌⊎◌, List, [], ◌∷◌, length, get_or, set, replicate, Some, None, Option, sym, refl, ap, ◌∙◌, inl, inr, ⊎_elim, zero-add, arith}
+use Rattle.std.proofs.lemmas.Option.{same_Some}
 use Rattle.std.proofs.lemmas.List.{get_or-set_same, get_or-set_other}
-use Rattle.std.proofs.lemmas.Bool.{true≢false, eqb-true, eq-eqb, and_parts, and_from, cases_eq}
+use Rattle.std.proofs.lemmas.Bool.{true≢false, eqb-true, eq-eqb, and_parts, and_from, cases_eq, false_from_ne_true}
 use Rattle.bank.specs.Claims.{passes, found, at, at_stage, askers, inside}
 use Rattle.bank.specs.Locks.{Locks, record_of}
 use Rattle.bank.specs.declared.memory.Claim.{Claim}
 
-pub some_same : {X : Type 0} (a c : X) → ◌≡◌ {A = Option X} (Some a) (Some c) → a ≡ c
-some_same a c e = cc
-
 pub some_none : {X : Type 0} {A : Type 0} (r : Option X) (x : X) → r ≡ None → r ≡ Some x → A
 some_none r x e f = absurd (grind arith)
-
-pub untrue : (t : Bool) → (t ≡ true → ⊥) → t ≡ false
-untrue true n = absurd (n refl)
-untrue false n = refl
 
 pub passes_set :
     {X : Type 0} (p : X → Bool) (rs : List (Option X)) (i : ℕ) (r : Option X) (j : ℕ) →
@@ -104,7 +98,7 @@ pub claim_cases :
     get_or (set rs i (Some x)) j None ≡ Some y → ((j ≡ i) × (x ≡ y)) ⊎ ((j ≡ i → ⊥) × (get_or rs j None ≡ Some y))
 claim_cases rs i x j y h f =
     ⊎_elim
-    (λ p. inl (p.0, some_same x y (sym p.1 ∙ f)))
+    (λ p. inl (p.0, same_Some x y (sym p.1 ∙ f)))
     (λ p. inr (p.0, sym p.1 ∙ f))
     (write_cases rs i (Some x) None j h)
 
@@ -151,7 +145,7 @@ pub nobody_inside :
     ((j : ℕ) (c : Claim T) → record_of s j ≡ Some c → c.bin ≡ b → entered c.stage ≡ true → ⊥) →
     inside entered s b ≡ None
 nobody_inside entered s b h =
-    found_none (at_stage entered b) 0 s.memory.records (λ j. untrue (passes (at_stage entered b) (record_of s j)) (none j))
+    found_none (at_stage entered b) 0 s.memory.records (λ j. false_from_ne_true (passes (at_stage entered b) (record_of s j)) (none j))
   where
     none : (j : ℕ) → passes (at_stage entered b) (record_of s j) ≡ true → ⊥
     none j p = let w = stage_claim entered b (record_of s j) p in h j w.0 w.1 w.2 w.3

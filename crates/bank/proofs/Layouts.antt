@@ -1,5 +1,5 @@
 -- States of all sizes; and layout, for any kind that grants it by the lengths and the age: its rule and what it leaves.
-use Rattle.std.proofs.Common.{◌≡◌, ℕ, ◌<◌, Bool, true, false, cond, ◌&&◌, eqb, ltb, List, [], ◌∷◌, length, is_ok, is_err, Option, sym, refl, ap, ◌∙◌, arith}
+use Rattle.std.proofs.Common.{◌≡◌, ℕ, ◌<◌, Bool, true, false, cond, ◌&&◌, eqb, ltb, is_ok, is_err, Option, sym, refl, ap, ◌∙◌}
 use Rattle.std.proofs.lemmas.List.{length-replicate}
 use Rattle.std.proofs.lemmas.Bool.{lt-ltb, le-ltb, ltb-true, eq-eqb, and_parts, and_from, and_left, and_right, false≢true}
 use Rattle.bank.specs.Kind.{Kind}
@@ -28,20 +28,14 @@ some_state nodes bank r z h = (
   blank_fits (nodes z) r z h,
 )
 
-no_items : {X : Type 0} (xs : List X) → length xs ≡ 0 → xs ≡ []
-no_items [] e = refl
-no_items (x ∷ xs) e = absurd (omega (arith, e))
-
--- without nodes, layout leaves the same from all that fits
+-- layout leaves the same from all that fits
 pub laid_alike :
-    {B X : Type 0} {bank : B} (w : ℕ) (s t : Locks B (Option X)) (z : Sizes) → has_lengths 0 z s.memory ≡ true →
-    has_lengths 0 z t.memory ≡ true → laid_with t bank w ≡ laid_with s bank w
-laid_alike w s t z h k =
-    let x = sized 0 z s.memory h in
-    let y = sized 0 z t.memory k in
-    let d = no_items s.memory.nodes x.nodes in
-    let e = no_items t.memory.nodes y.nodes in
-    rw (x.words, x.records, y.words, y.records, d, e)
+    {B X : Type 0} {bank : B} (nodes w : ℕ) (s t : Locks B (Option X)) (z : Sizes) →
+    has_lengths nodes z s.memory ≡ true → has_lengths nodes z t.memory ≡ true → laid_with t bank w ≡ laid_with s bank w
+laid_alike nodes w s t z h k =
+    let x = sized nodes z s.memory h in
+    let y = sized nodes z t.memory k in
+    rw (x.words, x.records, x.nodes, y.words, y.records, y.nodes)
 
 -- a layout that is granted where the memory fits and the age is below the modulus
 module _

@@ -8,3 +8,4 @@ pub mod Layouts
 pub mod Distinct
 pub mod Marks
 pub mod Effects
+pub mod Refused

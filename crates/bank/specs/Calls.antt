@@ -1,5 +1,5 @@
 -- One call of a kind, by its name, and the lengths told for its sizes.
-use Rattle.std.specs.Prelude.{ℕ, cond, Ok, Err, Result}
+use Rattle.std.specs.Prelude.{ℕ, if◌then◌else◌, Ok, Err, Result}
 use Rattle.bank.specs.Kind.{Kind}
 use Rattle.bank.specs.Memory.{within_limits}
 use Rattle.bank.specs.Refusals.{bad_size}
@@ -29,4 +29,4 @@ module _ {S : Type 0} (k : Kind S) where
   -- a word for each bin, a record for each session and the kind's nodes; refused by 1 for sizes outside their limits
   abbrev pub lengths_told : Sizes → Result Lengths Fault
   lengths_told z =
-      cond (within_limits z) (Ok (record { words = z.bins; records = z.sessions; nodes = k.nodes z })) (Err bad_size)
+      if within_limits z then Ok (record { words = z.bins; records = z.sessions; nodes = k.nodes z }) else Err bad_size

@@ -1,5 +1,5 @@
 -- The sessions' claims: who asks at a bin, and who is inside it.
-use Rattle.std.specs.Prelude.{ℕ, suc, Bool, false, cond, ◌&&◌, List, [], ◌∷◌, Some, None, Option, ◌==◌}
+use Rattle.std.specs.Prelude.{ℕ, suc, Bool, false, if◌then◌else◌, ◌&&◌, List, [], ◌∷◌, Some, None, Option, ◌==◌}
 use Rattle.bank.specs.Locks.{Locks, record_of}
 use Rattle.bank.specs.declared.memory.Claim.{Claim}
 
@@ -11,7 +11,7 @@ passes p (Some x) = p x
 -- the first session from i on whose record passes
 abbrev pub found : {X : Type 0} → (X → Bool) → ℕ → List (Option X) → Option ℕ
 found p i [] = None
-found p i (r ∷ rs) = cond (passes p r) (Some i) (found p (suc i) rs)
+found p i (r ∷ rs) = if passes p r then Some i else found p (suc i) rs
 
 abbrev pub claim : {T : Type 0} → ℕ → T → Claim T
 claim b stage = record { bin = b; stage = stage }

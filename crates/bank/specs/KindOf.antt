@@ -7,8 +7,8 @@ abbrev pub kind_of : {B R : Type 0} → Ghosts B R → Kind (Locks B R)
 kind_of g =
     kind
     (λ s. g.extent s.bank)
-    g.nodesfor
-    (fitting g.nodesfor)
+    g.nodes_for
+    (fitting g.nodes_for)
     (with_bank g.effective)
     g.modulus
     g.askers
@@ -17,13 +17,13 @@ kind_of g =
     g.age
     g.calm
     g.mark
-    g.calmof
-    g.ageof
+    g.calm_of
+    g.age_of
     g.fair
     g.line
     g.needed
-    g.entrypushes
-    g.exitpushes
+    g.entry_pushes
+    g.exit_pushes
     g.lays
     g.asks
     g.pushes

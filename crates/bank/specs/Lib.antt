@@ -8,3 +8,4 @@ pub mod Laws
 pub mod KindOf
 pub mod Calls
 pub mod Text
+pub mod LaidBank

@@ -1,9 +1,9 @@
 -- The state of a bank: the bank with the memory that it is lent.
-use Rattle.std.specs.Prelude.{ℕ, Bool, length, replicate, None, Option, slice_index, slice_index_or, slice_set}
+use Rattle.std.specs.Prelude.{ℕ, Bool, None, Option, slice_index, slice_index_or, slice_set}
 use Rattle.bank.specs.declared.memory.LockMemory.{LockMemory}
 use Rattle.bank.specs.declared.memory.Node.{Node}
 use Rattle.bank.specs.declared.memory.Sizes.{Sizes}
-use Rattle.bank.specs.Memory.{Lent, lent, has_lengths, empty_node}
+use Rattle.bank.specs.Memory.{Lent, lent, has_lengths, empty_node, fresh}
 
 pub record Locks (B R : Type 0) : Type 0 where
   pub bank : B
@@ -61,15 +61,6 @@ with_node s i n =
       memory = record { words = s.memory.words; records = s.memory.records; nodes = slice_set s.memory.nodes i n };
     }
 
--- another bank, every word w and every record none
+-- another bank, every word w, every record none and every node empty
 abbrev pub laid_with : {B X : Type 0} → Locks B (Option X) → B → ℕ → Locks B (Option X)
-laid_with s bank w =
-    record {
-      bank = bank;
-      memory =
-          record {
-            words = replicate (length s.memory.words) w;
-            records = replicate (length s.memory.records) None;
-            nodes = s.memory.nodes;
-          };
-    }
+laid_with s bank w = record { bank = bank; memory = fresh w s.memory }

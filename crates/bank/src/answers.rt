@@ -1,4 +1,4 @@
-// The calls that move a session on at a bin, and what they answer.
+//! The calls that move a session on at a bin, and what they answer.
 
 #[derive(Clone, Copy, PartialEq, Eq, Debug)]
 pub enum Call {

@@ -1,6 +1,8 @@
-// Why a call was refused, by which layer, and where: docs/REFUSALS.md.
+//! Why a call was refused, by which layer, and where: docs/REFUSALS.md.
 ghost use Rattle.std.specs.Prelude.{◌≡◌};
-ghost use Rattle.bank.specs.Refusals.{number, bad_size, of_kind, bad_record, bad_word, out_of_turn};
+ghost use Rattle.bank.specs.Refusals.{number, bad_size, of_kind, no_session, no_bin, bad_record, bad_word, out_of_turn};
+
+use std::error::Error;
 
 #[derive(Clone, Copy, PartialEq, Eq, Debug)]
 pub enum Reason {
@@ -16,12 +18,12 @@ pub enum Reason {
     OutOfTurn = 10,
 }
 
-impl Reason {
-    // The number under which docs/REFUSALS.md lists the reason.
-    pub fn number(self) -> u8
-        ensures { result ≡ number self }
-    {
-        self as u8
+// The number under which docs/REFUSALS.md lists the reason.
+impl From<Reason> for u8 {
+    ghost from_gives = { λ reason n. n ≡ number reason };
+
+    fn from(reason: Reason) -> u8 {
+        reason as u8
     }
 }
 
@@ -31,7 +33,7 @@ pub enum Layer {
     Kind,
 }
 
-// What a refusal points at: the table as a whole, a session or a bin.
+/// What a refusal points at: the table as a whole, a session or a bin.
 #[derive(Clone, Copy, PartialEq, Eq, Debug)]
 pub enum Place {
     Whole,
@@ -46,8 +48,10 @@ pub struct Fault {
     pub place: Place,
 }
 
+impl Error for Fault {}
+
 impl Fault {
-    // A size or an age outside its limits, or memory of another length than told.
+    /// A size or an age outside its limits, or memory of another length than told.
     pub fn bad_size() -> Self
         ensures { result ≡ bad_size }
     {
@@ -58,7 +62,7 @@ impl Fault {
         }
     }
 
-    // A refusal by a lock kind.
+    /// A refusal by a lock kind.
     pub fn of_kind(reason: Reason, place: Place) -> Self
         ensures { result ≡ of_kind reason place }
     {
@@ -69,21 +73,35 @@ impl Fault {
         }
     }
 
-    // A stored number out of its range, or none where one is needed, in a session's record or node.
+    /// A call by a session that is not there.
+    pub fn no_session(session: usize) -> Self
+        ensures { result ≡ no_session session }
+    {
+        Fault::of_kind(Reason::NoSession, Place::Session(session))
+    }
+
+    /// A call at a bin that is not there.
+    pub fn no_bin(bin: usize) -> Self
+        ensures { result ≡ no_bin bin }
+    {
+        Fault::of_kind(Reason::NoBin, Place::Bin(bin))
+    }
+
+    /// A stored number out of its range, or none where one is needed, in a session's record or node.
     pub fn bad_record(session: usize) -> Self
         ensures { result ≡ bad_record session }
     {
         Fault::of_kind(Reason::OutOfRange, Place::Session(session))
     }
 
-    // A stored number out of its range, in a bin's lock word.
+    /// A stored number out of its range, in a bin's lock word.
     pub fn bad_word(bin: usize) -> Self
         ensures { result ≡ bad_word bin }
     {
         Fault::of_kind(Reason::OutOfRange, Place::Bin(bin))
     }
 
-    // A call by a session whose turn it is not.
+    /// A call by a session whose turn it is not.
     pub fn out_of_turn(session: usize) -> Self
         ensures { result ≡ out_of_turn session }
     {

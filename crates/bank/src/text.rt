@@ -1,4 +1,4 @@
-// How answers and refusals are written: docs/CONSOLE.md.
+//! How answers and refusals are written: docs/CONSOLE.md.
 ghost use Rattle.std.specs.Prelude.{Some};
 ghost use Rattle.bank.specs.Text.{layer_text, place_text, fault_text, answer_text};
 
@@ -33,9 +33,12 @@ impl fmt::Display for Fault {
     ghost output = { λ x. Some (fault_text x) };
 
     fn fmt<W: fmt::Write>(&self, f: &mut fmt::Formatter<W>) -> fmt::Result {
-        let number = self.reason.number();
-        let layer = self.layer;
-        let place = self.place;
+        let Fault {
+            reason,
+            layer,
+            place,
+        } = *self;
+        let number = u8::from(reason);
         write!(f, "refused {number} {layer} {place}")
     }
 }

@@ -1,39 +1,31 @@
-// One session and 1,024 sessions at one bin: a line served in the order of its asks, and turns one after another.
-use bank::{AskAnswer, Bank, Claim, LeaveAnswer, Lengths, LockMemory, PushAnswer, Sizes};
-use central::{Central, Stage};
+//! One session and 1,024 sessions at one bin: a line served in the order of its asks, and turns one after another.
+use bank::{AskAnswer, Bank, LaidBank, LeaveAnswer, PushAnswer, Sizes};
+use central::Central;
 use std::process::Abort;
 use std::test::*;
-use ticket::{Ticket, Turn};
+use ticket::Ticket;
 
 fn line_of(rt: &(impl Abort + AllocGlobal), sessions: usize, start: u64) -> Result<(), Fail> {
-    let lengths = Lengths {
-        words: 1,
-        records: sessions,
-        nodes: 0,
-    };
-    let mut memory = LockMemory::<Option<Claim<Turn>>>::allocate(rt.alloc(), lengths, None)?;
-    let mut bank = Ticket::default();
-    assert!(rt;
-        bank.layout(&mut memory, Sizes { sessions, bins: 1 }, start)
-            .is_ok()
-    );
+    let sizes = Sizes { sessions, bins: 1 };
+    let LaidBank {
+        mut bank,
+        mut memory,
+    } = LaidBank::<Ticket>::lay_out(rt.alloc(), sizes, start)?;
     for session in 0..sessions {
         assert!(rt; bank.ask(&mut memory, session, 0).is_ok());
-        assert!(rt; matches!(bank.ahead(&memory, session), Ok(Some(n)) if n == session));
+        assert_eq!(rt; bank.ahead(&memory, session), Ok(Some(session)));
     }
     for session in 0..sessions {
         if session > 0 {
-            assert!(rt; matches!(bank.push(&mut memory, session, 0), Ok(PushAnswer::In)));
+            assert_eq!(rt; bank.push(&mut memory, session, 0), Ok(PushAnswer::In));
         }
         if session + 2 < sessions {
-            assert!(rt;
-                matches!(
-                    bank.push(&mut memory, session + 2, 0),
-                    Ok(PushAnswer::Waits)
-                )
+            assert_eq!(rt;
+                bank.push(&mut memory, session + 2, 0),
+                Ok(PushAnswer::Waits)
             );
         }
-        assert!(rt; matches!(bank.leave(&mut memory, session, 0), Ok(LeaveAnswer::Out)));
+        assert_eq!(rt; bank.leave(&mut memory, session, 0), Ok(LeaveAnswer::Out));
     }
     assert!(rt; matches!(bank.peek(&memory, 0), Ok((_, true))));
     Ok(())
@@ -52,23 +44,17 @@ fn as_many_sessions_as_there_may_be(rt: HostRuntime) -> Result<(), Fail> {
 
 // Every session in turn asks, enters and leaves.
 fn turns_of(rt: &(impl Abort + AllocGlobal), sessions: usize, start: u64) -> Result<u64, Fail> {
-    let lengths = Lengths {
-        words: 1,
-        records: sessions,
-        nodes: 0,
-    };
-    let mut memory = LockMemory::<Option<Claim<Stage>>>::allocate(rt.alloc(), lengths, None)?;
-    let mut bank = Central::default();
-    assert!(rt;
-        bank.layout(&mut memory, Sizes { sessions, bins: 1 }, start)
-            .is_ok()
-    );
+    let sizes = Sizes { sessions, bins: 1 };
+    let LaidBank {
+        mut bank,
+        mut memory,
+    } = LaidBank::<Central>::lay_out(rt.alloc(), sizes, start)?;
     for session in 0..sessions {
-        assert!(rt; matches!(bank.ask(&mut memory, session, 0), Ok(AskAnswer::NotYet)));
-        assert!(rt; matches!(bank.ahead(&memory, session), Ok(None)));
-        assert!(rt; matches!(bank.push(&mut memory, session, 0), Ok(PushAnswer::In)));
+        assert_eq!(rt; bank.ask(&mut memory, session, 0), Ok(AskAnswer::NotYet));
+        assert_eq!(rt; bank.ahead(&memory, session), Ok(None));
+        assert_eq!(rt; bank.push(&mut memory, session, 0), Ok(PushAnswer::In));
         assert!(rt; matches!(bank.peek(&memory, 0), Ok((_, false))));
-        assert!(rt; matches!(bank.leave(&mut memory, session, 0), Ok(LeaveAnswer::Out)));
+        assert_eq!(rt; bank.leave(&mut memory, session, 0), Ok(LeaveAnswer::Out));
     }
     match bank.peek(&memory, 0) {
         Ok((mark, true)) => Ok(mark),

@@ -1,4 +1,4 @@
-// The number of each reason, and how a refusal is written.
+//! The number of each reason, and how a refusal is written.
 use bank::{Fault, Layer, Place, Reason};
 use std::test::*;
 
@@ -17,7 +17,7 @@ fn reasons_are_numbered_from_one_to_ten(rt: HostRuntime) -> Result<(), Fail> {
         Reason::OutOfTurn,
     ];
     for (reason, number) in reasons.into_iter().zip(1..=10u8) {
-        assert_eq!(rt; reason.number(), number);
+        assert_eq!(rt; u8::from(reason), number);
     }
     Ok(())
 }

@@ -15,7 +15,6 @@ use Rattle.bank.specs.declared.answers.PushAnswer.TheVariants.{Waits, Moved, In,
 use Rattle.bank.specs.declared.memory.Claim.{Claim}
 use Rattle.bank.proofs.Askers.{at_no_other, changed, same_askers, same_inside, passes_join, passes_drop}
 use Rattle.bank.proofs.Claims.{passes_set, found_set, claim_asker}
-use Rattle.bank.proofs.Distinct.{push_number, not_yet_in, out_moved}
 use Rattle.bank.proofs.Itself.{same_self}
 use Rattle.central.specs.declared.Stage.{Stage}
 use Rattle.central.specs.declared.Stage.TheVariants.{Inside}
@@ -68,7 +67,7 @@ ask_effect s i b I = go (asks s i b) (ask_view s i b) refl
         let l = record_there s i I q.admitted.session in
         record {
           joins = λ j. passes_join (at b) s.memory.records i (claim b g) j l (eq-eqb b b refl);
-          in_enters = λ a. not_yet_in (cc);
+          in_enters = λ a. cc;
           not_yet_enters_nobody =
               λ a. no_entry s i b g (look_outside (word_at s b)) (ap (passes (at_stage entered b)) q.read);
           other_bins_keep_all =
@@ -88,27 +87,27 @@ next_age w l =
 module _ (s : State) (i b : ℕ) (I : Invariant s) where
   -- the answer out is never given
   push_never_out : (o : Outcome PushAnswer State) → PushView s i b o → o.answer ≢ Ok Out
-  push_never_out o (push_refused f) a = omega (arith, ap push_number a)
-  push_never_out o push_waits a = omega (arith, ap push_number a)
-  push_never_out o (push_moves c g q eb eo es ei) a = omega (arith, ap push_number a)
-  push_never_out o (push_enters c q eb eo l) a = omega (arith, ap push_number a)
+  push_never_out o (push_refused f) a = cc
+  push_never_out o push_waits a = cc
+  push_never_out o (push_moves c g q eb eo es ei) a = cc
+  push_never_out o (push_enters c q eb eo l) a = cc
 
   push_waiting : (o : Outcome PushAnswer State) → PushView s i b o → o.answer ≡ Ok Waits → o.after ≡ s
   push_waiting o (push_refused f) a = refl
   push_waiting o push_waits a = refl
-  push_waiting o (push_moves c g q eb eo es ei) a = absurd (omega (arith, ap push_number a))
-  push_waiting o (push_enters c q eb eo l) a = absurd (omega (arith, ap push_number a))
+  push_waiting o (push_moves c g q eb eo es ei) a = cc
+  push_waiting o (push_enters c q eb eo l) a = cc
 
   push_moving : (o : Outcome PushAnswer State) → PushView s i b o → o.answer ≡ Ok Moved → NoEntry central s o.after b
-  push_moving o (push_refused f) a = absurd (omega (arith, ap push_number a))
-  push_moving o push_waits a = absurd (omega (arith, ap push_number a))
+  push_moving o (push_refused f) a = cc
+  push_moving o push_waits a = cc
   push_moving o (push_moves c g q eb eo es ei) a = no_entry s i b g ei (outside s i c q.read eo b)
-  push_moving o (push_enters c q eb eo l) a = absurd (omega (arith, ap push_number a))
+  push_moving o (push_enters c q eb eo l) a = cc
 
   push_entering : (o : Outcome PushAnswer State) → PushView s i b o → o.answer ≡ Ok In → Entry central s o.after i b
-  push_entering o (push_refused f) a = absurd (omega (arith, ap push_number a))
-  push_entering o push_waits a = absurd (omega (arith, ap push_number a))
-  push_entering o (push_moves c g q eb eo es ei) a = absurd (omega (arith, ap push_number a))
+  push_entering o (push_refused f) a = cc
+  push_entering o push_waits a = cc
+  push_entering o (push_moves c g q eb eo es ei) a = cc
   push_entering o (push_enters c q eb eo l) a =
       let hi = q.admitted.session in
       let hb = q.admitted.bin in
@@ -190,8 +189,8 @@ leave_effect s i b I = go (leaves s i b) (leave_view s i b) refl
           keeps_age = ap age_of k ∙ age_unlocked w (omega arith) ∙ sym (age_locked (word_at s b) l);
           out_takes_off = λ a j. passes_drop (at b) s.memory.records i j (record_there s i I hi);
           out_leaves_nobody = λ a j. refl;
-          moved_stays_asker = λ a. out_moved (cc);
-          moved_is_leaving = λ a. out_moved (cc);
+          moved_stays_asker = λ a. cc;
+          moved_is_leaving = λ a. cc;
           other_bins_keep_all =
               λ d _ n.
               let x = get_or-set_other s.memory.words b d w 0 n in

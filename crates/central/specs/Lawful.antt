@@ -22,7 +22,7 @@ central_lawful =
       some_state = some_state nodes_for (λ z. record { sizes = z }) None;
       layout_rule = layout_rule central laid_out (λ s z a. refl);
       laid_out = laid_out_means;
-      laid_out_alike = layouts_alike central laid_out (λ s z a. refl) (λ s t z a. laid_alike a s t z);
+      laid_out_alike = layouts_alike central laid_out (λ s z a. refl) (λ s t z a. laid_alike 0 a s t z);
       effective_decides = whole_state_decides central (λ s. refl);
       refused_alters_nothing = refused_alters_nothing;
       calls_keep_sizes = calls_keep_sizes;

@@ -1,7 +1,7 @@
 -- When each call at a state with the invariant is refused, with which fault, and when it is granted.
-use Rattle.std.specs.Prelude.{◌≡◌, ℕ, ◌<◌, Bool, true, false, cond, is_ok, Some, None, Ok, Err, Option, ◌==◌, ◌≢◌, refl}
+use Rattle.std.specs.Prelude.{◌≡◌, ℕ, ◌<◌, Bool, true, false, if◌then◌else◌, ◌&&◌, is_ok, Some, None, Ok, Err, Option, ◌==◌, ◌≢◌, refl}
 use Rattle.std.proofs.Common.{sym, ap, ◌∙◌}
-use Rattle.std.proofs.lemmas.Bool.{eq-eqb, true≢false, false≢true}
+use Rattle.std.proofs.lemmas.Bool.{eq-eqb, true≢false, false≢true, false_from_ne_true}
 use Rattle.bank.specs.Claims.{passes, claim, at, at_stage, askers}
 use Rattle.bank.specs.Laws.{AskRule, PushRule, LeaveRule, PeekRule, AheadRule}
 use Rattle.bank.specs.Locks.{word_at, record_of, with_both}
@@ -12,10 +12,10 @@ use Rattle.bank.specs.declared.answers.PushAnswer.TheVariants.{Waits, Moved, In}
 use Rattle.bank.specs.declared.memory.Claim.{Claim}
 use Rattle.bank.proofs.Admission.{session_missing, session_there, bin_missing, bin_there, own_no_session, own_no_bin, own_there}
 use Rattle.bank.proofs.Askers.{no_claim}
-use Rattle.bank.proofs.Claims.{untrue, at_stage_from, asker_claim, inside_claim}
+use Rattle.bank.proofs.Claims.{asker_claim, inside_claim}
 use Rattle.central.specs.declared.Stage.{Stage}
 use Rattle.central.specs.declared.Stage.TheVariants.{Look, Swap, Inside}
-use Rattle.central.specs.Calls.{pushes, pushes_at, staged, leaves}
+use Rattle.central.specs.Calls.{pushes, pushes_at, staged, leaves, leaves_own}
 use Rattle.central.specs.Meaning.{inside}
 use Rattle.central.specs.State.{State, sessions_of, bins_of, entered, own_record}
 use Rattle.central.specs.Word.{unlocked, locked}
@@ -51,7 +51,7 @@ push_inside s i b Inside e = refl
 
 -- one grant or another
 either :
-    (t : Bool) (s u : State) (x y : PushAnswer) → is_ok (cond t (granted s x) (granted u y)).answer ≡ true
+    (t : Bool) (s u : State) (x y : PushAnswer) → is_ok (if t then granted s x else granted u y).answer ≡ true
 either true s u x y = refl
 either false s u x y = refl
 
@@ -93,7 +93,7 @@ push_rule s i b I =
     outside :
         b < bins_of s → (inside s b ≢ Some i) → (c : Claim Stage) → record_of s i ≡ Some c → c.bin ≡ b →
         entered c.stage ≡ false
-    outside k n c e q = untrue (entered c.stage) (λ p. n (holds_inside s b i I k (claim_holds s i b c e q p)))
+    outside k n c e q = false_from_ne_true (entered c.stage) (λ p. n (holds_inside s b i I k (claim_holds s i b c e q p)))
 
 pub leave_rule : (s : State) (i b : ℕ) → Invariant s → LeaveRule central s i b
 leave_rule s i b I =
@@ -104,16 +104,22 @@ leave_rule s i b I =
       granted =
           λ h k e.
           let w = inside_claim entered s b i e in
-          rw (own_is s i b I h k, w.1, at_stage_from entered b w.0 w.2 w.3);
+          rw (own_is s i b I h k, w.1, eq-eqb w.0.bin b w.2, w.3);
     }
   where
+    at_bin :
+        (x : Bool) (g : Stage) → (x && entered g) ≡ false →
+        (leaves_own (if x then Ok g else Err (out_of_turn i)) s i b).answer ≡ Err (out_of_turn i)
+    at_bin false g q = refl
+    at_bin true g q = rw q
+
     not_inside :
         b < bins_of s → own_record s i b ≡ Ok (record_of s i) → (inside s b ≢ Some i) →
         (r : Option (Claim Stage)) → record_of s i ≡ r → (leaves s i b).answer ≡ Err (out_of_turn i)
     not_inside k o n None e = rw (o, e)
     not_inside k o n (Some c) e =
-        let q = untrue (at_stage entered b c) (λ p. n (holds_inside s b i I k (ap (passes (at_stage entered b)) e ∙ p))) in
-        rw (o, e, q)
+        let q = false_from_ne_true (at_stage entered b c) (λ p. n (holds_inside s b i I k (ap (passes (at_stage entered b)) e ∙ p))) in
+        rw (o, e) (at_bin (at b c) c.stage q)
 
 pub peek_rule : (s : State) (b : ℕ) → Invariant s → PeekRule central s b
 peek_rule s b I =

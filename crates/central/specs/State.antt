@@ -30,3 +30,7 @@ entered Inside = true
 -- the caller's own record, past the refusals 1, 2 and 3, or 9 at the session
 abbrev pub own_record : State → ℕ → ℕ → Result (Option (Claim Stage)) Fault
 own_record s i b = memory.own_record 0 s.bank.sizes s.memory i b
+
+-- the stage of the caller's claim at the bin, or 10 at the session
+abbrev pub own_stage : State → ℕ → ℕ → Result Stage Fault
+own_stage s i b = memory.own_stage 0 s.bank.sizes s.memory i b

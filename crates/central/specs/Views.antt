@@ -1,8 +1,8 @@
 -- The ways that an ask, a push and a leave may go, at any state.
 use Rattle.std.specs.Prelude.{◌≡◌, ℕ, ◌<◌, true, false, Some, None, Ok, Err, Option, Result, ◌==◌, refl}
 use Rattle.std.proofs.Common.{ap, ◌∙◌}
-use Rattle.std.proofs.lemmas.Bool.{eqb-true, ltb-true, cond_both}
-use Rattle.bank.specs.Claims.{claim, at, at_stage}
+use Rattle.std.proofs.lemmas.Bool.{eqb-true, lt-ltb, ltb-true, cond_both}
+use Rattle.bank.specs.Claims.{claim}
 use Rattle.bank.specs.Locks.{word_at, with_both}
 use Rattle.bank.specs.Outcome.{Outcome, refused, granted}
 use Rattle.bank.specs.Refusals.{bad_record, out_of_turn}
@@ -14,8 +14,7 @@ use Rattle.bank.specs.declared.answers.PushAnswer.{PushAnswer}
 use Rattle.bank.specs.declared.answers.PushAnswer.TheVariants.{Waits, Moved, In}
 use Rattle.bank.specs.declared.memory.Claim.{Claim}
 use Rattle.bank.specs.declared.refusals.Fault.{Fault}
-use Rattle.bank.proofs.Admission.{Own, owned}
-use Rattle.bank.proofs.Claims.{at_stage_parts}
+use Rattle.bank.proofs.Admission.{Own, owned, At, stage_cases}
 use Rattle.central.specs.declared.Stage.{Stage}
 use Rattle.central.specs.declared.Stage.TheVariants.{Look, Swap, Inside}
 use Rattle.central.specs.Calls.{staged, after_look, asks, asks_own, pushes, pushes_at, pushes_own, swaps, leaves, leaves_own}
@@ -26,6 +25,9 @@ use Rattle.central.specs.Invariant.{sound_stage}
 -- a call past the refusals 1, 2 and 3 whose own record r is in range
 abbrev pub Owns : State → ℕ → ℕ → Option (Claim Stage) → Type 0
 Owns s i b r = Own 0 s.bank.sizes s.memory i b r
+
+owner : {s : State} {i b : ℕ} {g : Stage} → At 0 s.bank.sizes s.memory i b g → Owns s i b (Some (claim b g))
+owner {b = b} a = record { admitted = a.admitted; read = a.read; ranged = lt-ltb b _ a.admitted.bin }
 
 pub data AskView (s : State) (i b : ℕ) : Outcome AskAnswer State → Type 0 where
   ask_refused : (f : Fault) → AskView s i b (refused s f)
@@ -50,27 +52,25 @@ pub data PushView (s : State) (i b : ℕ) : Outcome PushAnswer State → Type 0 
       word_at s b < lock_bit → PushView s i b (granted (with_both s b (locked (word_at s b)) i (Some (claim b Inside))) In)
 
 pub push_view : (s : State) (i b : ℕ) → PushView s i b (pushes s i b)
-push_view s i b = go (own_record s i b) refl
+push_view s i b = stage_cases 0 s.bank.sizes s.memory i b (λ x. PushView s i b (pushes_own x s i b)) stages push_refused
   where
     entry :
-        (c : Claim Stage) (w : ℕ) → Owns s i b (Some c) → c.bin ≡ b → c.stage ≡ Swap w → unlocked w ≡ true →
-        word_at s b ≡ w → PushView s i b (granted (with_both s b (locked w) i (Some (claim b Inside))) In)
-    entry c w o eb eg u e =
+        (w : ℕ) → At 0 s.bank.sizes s.memory i b (Swap w) → unlocked w ≡ true → word_at s b ≡ w →
+        PushView s i b (granted (with_both s b (locked w) i (Some (claim b Inside))) In)
+    entry w a u e =
         let l = ltb-true (word_at s b) lock_bit (ap unlocked e ∙ u) in
-        rw (← e) (push_enters c o eb (ap entered eg) l)
+        rw (← e) (push_enters (claim b (Swap w)) (owner a) refl refl l)
 
-    stages :
-        (c : Claim Stage) → Owns s i b (Some c) → c.bin ≡ b → (g : Stage) → c.stage ≡ g →
-        PushView s i b (pushes_at g s i b)
-    stages c o eb Look eg =
+    stages : (g : Stage) → At 0 s.bank.sizes s.memory i b g → PushView s i b (pushes_at g s i b)
+    stages Look a =
         cond_both
         (unlocked (word_at s b))
         _
         _
         (PushView s i b)
-        (λ u. push_moves c (Swap (word_at s b)) o eb (ap entered eg) u refl)
+        (λ u. push_moves (claim b Look) (Swap (word_at s b)) (owner a) refl refl u refl)
         (λ u. push_waits)
-    stages c o eb (Swap w) eg =
+    stages (Swap w) a =
         cond_both (unlocked w) _ _ (PushView s i b) (λ u. swap u) (λ u. push_refused (bad_record i))
       where
         swap : unlocked w ≡ true → PushView s i b (swaps w s i b)
@@ -80,22 +80,9 @@ push_view s i b = go (own_record s i b) refl
             _
             _
             (PushView s i b)
-            (λ e. entry c w o eb eg u (eqb-true (word_at s b) w e))
-            (λ e. push_moves c Look o eb (ap entered eg) refl refl)
-    stages c o eb Inside eg = push_refused (out_of_turn i)
-
-    go : (a : Result (Option (Claim Stage)) Fault) → own_record s i b ≡ a → PushView s i b (pushes_own a s i b)
-    go (Err f) e = push_refused f
-    go (Ok None) e = push_refused (out_of_turn i)
-    go (Ok (Some c)) e =
-        let o = owned 0 s.bank.sizes s.memory i b (Some c) e in
-        cond_both
-        (at b c)
-        _
-        _
-        (PushView s i b)
-        (λ q. stages c o (eqb-true c.bin b q) c.stage refl)
-        (λ q. push_refused (out_of_turn i))
+            (λ e. entry w a u (eqb-true (word_at s b) w e))
+            (λ e. push_moves (claim b (Swap w)) Look (owner a) refl refl refl refl)
+    stages Inside a = push_refused (out_of_turn i)
 
 pub data LeaveView (s : State) (i b : ℕ) : Outcome LeaveAnswer State → Type 0 where
   leave_refused : (f : Fault) → LeaveView s i b (refused s f)
@@ -104,17 +91,14 @@ pub data LeaveView (s : State) (i b : ℕ) : Outcome LeaveAnswer State → Type 
       LeaveView s i b (granted (with_both s b (released (word_at s b)) i None) OutAtOnce)
 
 pub leave_view : (s : State) (i b : ℕ) → LeaveView s i b (leaves s i b)
-leave_view s i b = go (own_record s i b) refl
+leave_view s i b = stage_cases 0 s.bank.sizes s.memory i b (λ x. LeaveView s i b (leaves_own x s i b)) stages leave_refused
   where
-    go : (a : Result (Option (Claim Stage)) Fault) → own_record s i b ≡ a → LeaveView s i b (leaves_own a s i b)
-    go (Err f) e = leave_refused f
-    go (Ok None) e = leave_refused (out_of_turn i)
-    go (Ok (Some c)) e =
-        let o = owned 0 s.bank.sizes s.memory i b (Some c) e in
+    stages : (g : Stage) → At 0 s.bank.sizes s.memory i b g → LeaveView s i b (leaves_own (Ok g) s i b)
+    stages g a =
         cond_both
-        (at_stage entered b c)
+        (entered g)
         _
         _
         (LeaveView s i b)
-        (λ q. let p = at_stage_parts entered b c q in leave_exits c o p.0 p.1)
+        (λ q. leave_exits (claim b g) (owner a) refl q)
         (λ q. leave_refused (out_of_turn i))

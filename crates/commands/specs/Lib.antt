@@ -1,5 +1,4 @@
 pub mod Numbers
 pub mod Syntax
-pub mod Readers
 pub mod Responses
 pub mod Text

@@ -1,4 +1,5 @@
 -- How a command is spelled, as the words of a line.
+-- An unfoldable definition is one word to a proof that does not open it: so a search finds what it is said of.
 use Rattle.std.specs.Prelude.{◌≡◌, ℕ, List, [], ◌∷◌, map, Some, None, codes, Option}
 use Rattle.std.specs.Borrow.{Bor}
 use Rattle.bank.specs.declared.answers.Call.{Call as Calls}
@@ -36,7 +37,7 @@ End [] = Unit
 End (w ∷ ws) = ⊥
 
 -- SESSION or BIN
-abbrev pub One : ℕ → Texts → Type 0
+unfoldable pub One : ℕ → Texts → Type 0
 One n = Arg number n End
 
 -- SESSION BIN
@@ -54,15 +55,15 @@ call_text Push = codes "push"
 call_text Leave = codes "leave"
 
 -- KIND SESSIONS BINS AGE
-abbrev pub Laid : Setup → Texts → Type 0
+unfoldable pub Laid : Setup → Texts → Type 0
 Laid s = Then (kind_text s.kind) (Arg number s.sizes.sessions (Arg number s.sizes.bins (Arg number s.start End)))
 
 -- ARTICLE QUANTITY RESERVED STAMP
-abbrev pub Four : BinWords → Texts → Type 0
+unfoldable pub Four : BinWords → Texts → Type 0
 Four w = Arg word32 w.article (Arg word32 w.quantity (Arg word32 w.reserved (Arg word32 w.stamp End)))
 
 -- a job: its name, BIN, and what the job takes
-abbrev pub Works : ℕ × Job → Texts → Type 0
+unfoldable pub Works : ℕ × Job → Texts → Type 0
 Works (b, Lookup) = Then (codes "lookup") (One b)
 Works (b, Set w) = Then (codes "set") (Arg number b (Four w))
 Works (b, Adjust a t) = Then (codes "adjust") (Arg number b (Arg amount a (Arg word32 t End)))
@@ -86,10 +87,14 @@ Spells (Node i) = Then (codes "node") (One i)
 Spells (PokeWord b w) = Then (codes "poke") (Then (codes "word") (Arg number b (Arg lock_word w End)))
 Spells (PokeBin b w) = Then (codes "poke") (Then (codes "bin") (Arg number b (Four w)))
 
--- what is read is spelled so; where nothing is read, nothing is spelled so
-abbrev pub Reads : {A : Type 0} → (A → Texts → Type 0) → Texts → Option A → Type 0
-Reads P ws (Some a) = P a ws
-Reads {A} P ws None = (a : A) → P a ws → ⊥
+-- the words behind the first word t spell the command
+abbrev pub Behind : List ℕ → Command → Texts → Type 0
+Behind t command ws = Spells command (t ∷ ws)
+
+-- what is read from the text or texts w is spelled so; where nothing is read, nothing is spelled so
+abbrev pub Reads : {A W : Type 0} → (A → W → Type 0) → W → Option A → Type 0
+Reads P w (Some a) = P a w
+Reads {A} P w None = (a : A) → P a w → ⊥
 
 abbrev pub ReadAs : Texts → Option Command → Type 0
 ReadAs = Reads Spells

@@ -1,4 +1,4 @@
-// What the console does with a line: parse it, carry it out, and say what came of it.
+//! What the console does with a line: parse it, carry it out, and say what came of it.
 #![tactic(auto)]
 
 mod parser;
@@ -7,6 +7,6 @@ mod responder;
 mod syntax;
 
 pub use parser::parse;
-pub use replies::Reply;
+pub use replies::{Declined, Reply};
 pub use responder::respond;
 pub use syntax::{BinWords, Command, Job, KindName, Setup};

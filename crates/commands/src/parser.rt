@@ -1,8 +1,7 @@
-// From a line to a command. A line that is no command gives none.
-ghost use Rattle.std.specs.Prelude.{◌≡◌, ◌∷◌, Some};
-ghost use Rattle.commands.specs.Syntax.{texts, kind_text, End, One, Two, Laid, Four, Works, Reads, ReadAs};
-ghost use Rattle.commands.specs.Readers.{Named, verb_text, job_text, place_text, setup_of, bin_words_of, Change, Worded, Led, Pokes};
-ghost use Rattle.commands.specs.Numbers.{digit_of, with_digit, read_on, well_formed, lock_word, number as decimal_number, word32 as word, positive_amount, negative_amount, amount as signed_amount};
+//! From a line to a command. A line that is no command gives none.
+ghost use Rattle.std.specs.Prelude.{◌≡◌, ℕ, List, Some, codes};
+ghost use Rattle.commands.specs.Syntax.{texts, kind_text, call_text, One, Laid, Four, Works, Behind, Reads, ReadAs};
+ghost use Rattle.commands.specs.Numbers.{digit_of, with_digit, read_digits, lock_word, number, word32, amount};
 
 use super::syntax::{BinWords, Command, Job, KindName, Setup};
 use bank::{Call, Sizes};
@@ -11,108 +10,111 @@ use bank::{Call, Sizes};
 fn digit_of(byte: u8) -> Option<u8>
     ensures { result ≡ digit_of byte }
 {
-    if b'0' <= byte && byte <= b'9' {
-        return Some(byte - b'0');
+    match byte {
+        b'0'..=b'9' => Some(byte - b'0'),
+        b'A'..=b'F' => Some(byte - b'A' + 10),
+        _ => None,
     }
-    if b'A' <= byte && byte <= b'F' {
-        return Some(byte - b'A' + 10);
-    }
-    None
 }
 
 // The value with one digit more behind it.
 fn with_digit(radix: u64, value: u64, byte: u8) -> Option<u64>
-    ensures { result ≡ with_digit radix value (digit_of byte) }
+    ensures { result ≡ with_digit radix (Some value) (digit_of byte) }
 {
-    let digit = digit_of(byte)? as u64;
+    let digit = u64::from(digit_of(byte)?);
     if digit >= radix {
         return None;
     }
     value.checked_mul(radix)?.checked_add(digit)
 }
 
+// The value of a text of digits, below 2^64. (The library's `from_str_radix` also takes a leading
+// plus and small letters.)
 fn read_digits(radix: u64, text: &[u8]) -> Option<u64>
-    ensures { result ≡ read_on radix (Some 0) text.now }
+    ensures { result ≡ read_digits radix text.now }
 {
-    let mut value = 0;
-    for byte in text {
-        value = with_digit(radix, value, *byte)?;
-    }
-    Some(value)
-}
-
-// At least one digit, and a leading zero only alone.
-fn is_well_formed(text: &[u8]) -> bool
-    ensures { result ≡ well_formed text.now }
-{
-    match text {
-        [] => false,
-        [_] => true,
-        [first, ..] => *first != b'0',
-    }
+    text.iter()
+        .fold(Some(0), |value, &byte| with_digit(radix, value?, byte))
 }
 
 // A number in decimal digits, without sign and without leading zeros, below 2^64.
+#[tactic(auto, unfolding(crate::specs::Numbers::number))]
 fn number(text: &[u8]) -> Option<u64>
-    ensures { result ≡ decimal_number text.now }
+    ensures { result ≡ number text.now }
 {
-    if !is_well_formed(text) {
-        return None;
+    match text {
+        [] | [b'0', _, ..] => None,
+        _ => read_digits(10, text),
     }
-    read_digits(10, text)
+}
+
+// A value that one word spells.
+trait FromWord: Sized {
+    ghost spelled: { Self → List ℕ → Type 0 };
+
+    fn from_word(text: &str) -> Option<Self>
+        ensures { Reads spelled text.now result };
+}
+
+// An age.
+impl FromWord for u64 {
+    ghost spelled = { λ n text. number text ≡ Some n };
+
+    fn from_word(text: &str) -> Option<u64> {
+        number(text.as_bytes())
+    }
 }
 
 // A session's or a bin's number, or a size.
-fn index(text: &str) -> Option<usize>
-    ensures { result ≡ decimal_number text.now }
-{
-    Some(number(text.as_bytes())? as usize)
+impl FromWord for usize {
+    ghost spelled = { λ n text. number text ≡ Some n };
+
+    fn from_word(text: &str) -> Option<usize> {
+        usize::try_from(number(text.as_bytes())?).ok()
+    }
 }
 
 // A number below 2^32.
-fn word32(text: &str) -> Option<u32>
-    ensures { result ≡ word text.now }
-{
-    let value = number(text.as_bytes())?;
-    if value > 4294967295 {
-        return None;
+impl FromWord for u32 {
+    ghost spelled = { λ n text. word32 text ≡ Some n };
+
+    #[tactic(auto, unfolding(crate::specs::Numbers::word32))]
+    fn from_word(text: &str) -> Option<u32> {
+        u32::try_from(number(text.as_bytes())?).ok()
     }
-    Some(value as u32)
 }
 
 // A signed 32-bit number, a minus sign directly before its digits; zero has no sign.
-fn amount(text: &str) -> Option<i32>
-    ensures { result ≡ signed_amount text.now }
-{
-    let bytes = text.as_bytes();
-    if bytes.len() > 0 && bytes[0] == b'-' {
-        negative(&bytes[1..])
-    } else {
-        positive(bytes)
+impl FromWord for i32 {
+    ghost spelled = { λ z text. amount text ≡ Some z };
+
+    #[tactic(auto, unfolding(crate::specs::Numbers::amount))]
+    fn from_word(text: &str) -> Option<i32> {
+        match text.as_bytes() {
+            [b'-', digits @ ..] => match number(digits)? {
+                0 => None,
+                size => i32::try_from(-i128::from(size)).ok(),
+            },
+            digits => i32::try_from(number(digits)?).ok(),
+        }
     }
 }
 
-fn positive(digits: &[u8]) -> Option<i32>
-    ensures { result ≡ positive_amount (decimal_number digits.now) }
-{
-    let value = number(digits)?;
-    if value > 2147483647 {
-        return None;
-    }
-    Some(value as i32)
-}
+impl FromWord for KindName {
+    ghost spelled = { λ kind text. text ≡ kind_text kind };
 
-fn negative(digits: &[u8]) -> Option<i32>
-    ensures { result ≡ negative_amount (decimal_number digits.now) }
-{
-    let value = number(digits)?;
-    if value == 0 || value > 2147483648 {
-        return None;
+    fn from_word(text: &str) -> Option<KindName> {
+        match text {
+            "queuing" => Some(KindName::Queuing),
+            "ticket" => Some(KindName::Ticket),
+            "central" => Some(KindName::Central),
+            _ => None,
+        }
     }
-    Some((-(value as i64)) as i32)
 }
 
 // A lock word: 16 hexadecimal digits, capitals.
+#[tactic(auto, unfolding(crate::specs::Numbers::lock_word))]
 fn lock_word(text: &str) -> Option<u64>
     ensures { result ≡ lock_word text.now }
 {
@@ -122,327 +124,148 @@ fn lock_word(text: &str) -> Option<u64>
     read_digits(16, text.as_bytes())
 }
 
-fn kind_name(text: &str) -> Option<KindName>
-    ensures { Named kind_text text.now result }
-{
-    match text {
-        "queuing" => Some(KindName::Queuing),
-        "ticket" => Some(KindName::Ticket),
-        "central" => Some(KindName::Central),
-        _ => None,
-    }
-}
-
-fn setup(kind: Option<KindName>, sessions: &str, bins: &str, start: &str) -> Option<Setup>
-    ensures { result ≡ setup_of kind (decimal_number sessions.now) (decimal_number bins.now) (decimal_number start.now) }
-{
-    let kind = kind?;
-    let sessions = index(sessions)?;
-    let bins = index(bins)?;
-    let start = number(start.as_bytes())?;
-    let sizes = Sizes { sessions, bins };
-    Some(Setup { kind, sizes, start })
-}
-
-fn bin_words(article: &str, quantity: &str, reserved: &str, stamp: &str) -> Option<BinWords>
-    ensures { result ≡ bin_words_of (word article.now) (word quantity.now) (word reserved.now) (word stamp.now) }
-{
-    Some(BinWords {
-        article: word32(article)?,
-        quantity: word32(quantity)?,
-        reserved: word32(reserved)?,
-        stamp: word32(stamp)?,
-    })
-}
-
-// The first word of a line.
-#[derive(Clone, Copy)]
-enum Verb {
-    Layout,
-    Bank,
-    Load,
-    Open,
-    Begin,
-    Step,
-    Collect,
-    Ahead,
-    Peek,
-    Close,
-    Read,
-    Call(Call),
-    Word,
-    Node,
-    Poke,
-}
-
-// What `begin` begins.
-#[derive(Clone, Copy)]
-enum JobName {
-    Lookup,
-    Set,
-    Adjust,
-}
-
-// Where `poke` writes.
-#[derive(Clone, Copy)]
-enum Place {
-    Word,
-    Bin,
-}
-
-// What `poke` writes.
-#[derive(Clone, Copy)]
-enum Poke {
-    Word(usize, u64),
-    Bin(usize, BinWords),
-}
-
-fn verb_name(text: &str) -> Option<Verb>
-    ensures { Named verb_text text.now result }
-{
-    match text {
-        "layout" => Some(Verb::Layout),
-        "bank" => Some(Verb::Bank),
-        "load" => Some(Verb::Load),
-        "open" => Some(Verb::Open),
-        "begin" => Some(Verb::Begin),
-        "step" => Some(Verb::Step),
-        "collect" => Some(Verb::Collect),
-        "ahead" => Some(Verb::Ahead),
-        "peek" => Some(Verb::Peek),
-        "close" => Some(Verb::Close),
-        "read" => Some(Verb::Read),
-        "ask" => Some(Verb::Call(Call::Ask)),
-        "push" => Some(Verb::Call(Call::Push)),
-        "leave" => Some(Verb::Call(Call::Leave)),
-        "word" => Some(Verb::Word),
-        "node" => Some(Verb::Node),
-        "poke" => Some(Verb::Poke),
-        _ => None,
-    }
-}
-
-fn job_name(text: &str) -> Option<JobName>
-    ensures { Named job_text text.now result }
-{
-    match text {
-        "lookup" => Some(JobName::Lookup),
-        "set" => Some(JobName::Set),
-        "adjust" => Some(JobName::Adjust),
-        _ => None,
-    }
-}
-
-fn place_name(text: &str) -> Option<Place>
-    ensures { Named place_text text.now result }
-{
-    match text {
-        "word" => Some(Place::Word),
-        "bin" => Some(Place::Bin),
-        _ => None,
-    }
-}
-
-// No more words.
-fn end(words: &[&str]) -> Option<()>
-    ensures { Reads (λ u. End) (texts words.now) result }
-{
-    match words {
-        [] => Some(()),
-        _ => None,
-    }
-}
-
-// A session or a bin, and no more.
+// SESSION or BIN, and no more.
+#[tactic(auto, unfolding(crate::specs::Syntax::One))]
 fn one(words: &[&str]) -> Option<usize>
     ensures { Reads One (texts words.now) result }
 {
     match words {
-        [number] => index(number),
-        _ => None,
-    }
-}
-
-// A session and a bin, and no more.
-fn two(words: &[&str]) -> Option<(usize, usize)>
-    ensures { Reads Two (texts words.now) result }
-{
-    match words {
-        [session, bin] => Some((index(session)?, index(bin)?)),
+        [number] => usize::from_word(number),
         _ => None,
     }
 }
 
 // KIND SESSIONS BINS AGE, and no more.
-fn laid(words: &[&str]) -> Option<Setup>
+#[tactic(auto, unfolding(crate::specs::Syntax::Laid))]
+fn setup(words: &[&str]) -> Option<Setup>
     ensures { Reads Laid (texts words.now) result }
 {
     match words {
-        [kind, sessions, bins, age] => setup(kind_name(kind), sessions, bins, age),
+        [kind, sessions, bins, age] => Some(Setup {
+            kind: KindName::from_word(kind)?,
+            sizes: Sizes {
+                sessions: usize::from_word(sessions)?,
+                bins: usize::from_word(bins)?,
+            },
+            start: u64::from_word(age)?,
+        }),
         _ => None,
     }
 }
 
-// The four words of a bin, and no more.
-fn four(words: &[&str]) -> Option<BinWords>
+// ARTICLE QUANTITY RESERVED STAMP, and no more.
+#[tactic(auto, unfolding(crate::specs::Syntax::Four))]
+fn bin_words(words: &[&str]) -> Option<BinWords>
     ensures { Reads Four (texts words.now) result }
 {
     match words {
-        [article, quantity, reserved, stamp] => bin_words(article, quantity, reserved, stamp),
+        [article, quantity, reserved, stamp] => Some(BinWords {
+            article: u32::from_word(article)?,
+            quantity: u32::from_word(quantity)?,
+            reserved: u32::from_word(reserved)?,
+            stamp: u32::from_word(stamp)?,
+        }),
         _ => None,
     }
 }
 
-// AMOUNT STAMP, and no more.
-fn change(words: &[&str]) -> Option<(i32, u32)>
-    ensures { Reads Change (texts words.now) result }
-{
-    match words {
-        [sum, stamp] => Some((amount(sum)?, word32(stamp)?)),
-        _ => None,
-    }
-}
-
-// BIN WORD, and no more.
-fn worded(words: &[&str]) -> Option<(usize, u64)>
-    ensures { Reads Worded (texts words.now) result }
-{
-    match words {
-        [bin, word] => Some((index(bin)?, lock_word(word)?)),
-        _ => None,
-    }
-}
-
-// A bin and its four words.
-fn loaded(words: &[&str]) -> Option<(usize, BinWords)>
-    ensures { Reads (Led Four) (texts words.now) result }
-{
-    match words {
-        [bin, rest @ ..] => Some((index(bin)?, four(rest)?)),
-        _ => None,
-    }
-}
-
-// A bin and its change.
-fn adjusted(words: &[&str]) -> Option<(usize, (i32, u32))>
-    ensures { Reads (Led Change) (texts words.now) result }
-{
-    match words {
-        [bin, rest @ ..] => Some((index(bin)?, change(rest)?)),
-        _ => None,
-    }
-}
-
-// What stands behind the name of a job.
-fn job_of(name: JobName, words: &[&str]) -> Option<(usize, Job)>
-    ensures { Reads Works (job_text name ∷ texts words.now) result }
-{
-    match name {
-        JobName::Lookup => Some((one(words)?, Job::Lookup)),
-        JobName::Set => {
-            let (bin, words) = loaded(words)?;
-            Some((bin, Job::Set(words)))
-        }
-        JobName::Adjust => {
-            let (bin, (sum, stamp)) = adjusted(words)?;
-            Some((bin, Job::Adjust(sum, stamp)))
-        }
-    }
-}
-
-// A job, by its name.
+// A job: its name, BIN, and what the job takes.
+#[tactic(auto, unfolding(crate::specs::Syntax::Works, crate::specs::Syntax::One))]
 fn job(words: &[&str]) -> Option<(usize, Job)>
     ensures { Reads Works (texts words.now) result }
 {
     match words {
-        [name, rest @ ..] => job_of(job_name(name)?, rest),
+        ["lookup", bin] => Some((usize::from_word(bin)?, Job::Lookup)),
+        ["set", bin, rest @ ..] => Some((usize::from_word(bin)?, Job::Set(bin_words(rest)?))),
+        ["adjust", bin, sum, stamp] => Some((
+            usize::from_word(bin)?,
+            Job::Adjust(i32::from_word(sum)?, u32::from_word(stamp)?),
+        )),
         _ => None,
     }
 }
 
-// A session and its job.
-fn begun(words: &[&str]) -> Option<(usize, (usize, Job))>
-    ensures { Reads (Led Works) (texts words.now) result }
+// SESSION and its job: what stands behind `begin`.
+fn begin(words: &[&str]) -> Option<Command>
+    ensures { Reads (Behind (codes "begin")) (texts words.now) result }
 {
     match words {
-        [session, rest @ ..] => Some((index(session)?, job(rest)?)),
-        _ => None,
-    }
-}
-
-// What stands behind the name of a place.
-fn poke_of(place: Place, words: &[&str]) -> Option<Poke>
-    ensures { Reads Pokes (place_text place ∷ texts words.now) result }
-{
-    match place {
-        Place::Word => {
-            let (bin, word) = worded(words)?;
-            Some(Poke::Word(bin, word))
-        }
-        Place::Bin => {
-            let (bin, words) = loaded(words)?;
-            Some(Poke::Bin(bin, words))
-        }
-    }
-}
-
-// A poke, by its place.
-fn poked(words: &[&str]) -> Option<Poke>
-    ensures { Reads Pokes (texts words.now) result }
-{
-    match words {
-        [place, rest @ ..] => poke_of(place_name(place)?, rest),
-        _ => None,
-    }
-}
-
-// What stands behind a verb.
-fn command(verb: Verb, words: &[&str]) -> Option<Command>
-    ensures { ReadAs (verb_text verb ∷ texts words.now) result }
-{
-    match verb {
-        Verb::Layout => Some(Command::Layout(laid(words)?)),
-        Verb::Bank => Some(Command::Bank(laid(words)?)),
-        Verb::Load => {
-            let (bin, words) = loaded(words)?;
-            Some(Command::Load(bin, words))
-        }
-        Verb::Open => {
-            end(words)?;
-            Some(Command::Open)
-        }
-        Verb::Begin => {
-            let (session, (bin, job)) = begun(words)?;
+        [session, rest @ ..] => {
+            let session = usize::from_word(session)?;
+            let (bin, job) = job(rest)?;
             Some(Command::Begin(session, bin, job))
         }
-        Verb::Step => Some(Command::Step(one(words)?)),
-        Verb::Collect => Some(Command::Collect(one(words)?)),
-        Verb::Ahead => Some(Command::Ahead(one(words)?)),
-        Verb::Peek => Some(Command::Peek(one(words)?)),
-        Verb::Read => Some(Command::Read(one(words)?)),
-        Verb::Word => Some(Command::Word(one(words)?)),
-        Verb::Node => Some(Command::Node(one(words)?)),
-        Verb::Close => {
-            end(words)?;
-            Some(Command::Close)
-        }
-        Verb::Call(call) => {
-            let (session, bin) = two(words)?;
-            Some(Command::Call(call, session, bin))
-        }
-        Verb::Poke => match poked(words)? {
-            Poke::Word(bin, word) => Some(Command::PokeWord(bin, word)),
-            Poke::Bin(bin, words) => Some(Command::PokeBin(bin, words)),
-        },
+        _ => None,
     }
 }
 
-// The command that a line's words spell, if they spell one.
+// What is poked, a lock word or a bin: what stands behind `poke`.
+fn poke(words: &[&str]) -> Option<Command>
+    ensures { Reads (Behind (codes "poke")) (texts words.now) result }
+{
+    match words {
+        ["word", bin, word] => Some(Command::PokeWord(usize::from_word(bin)?, lock_word(word)?)),
+        ["bin", bin, rest @ ..] => Some(Command::PokeBin(usize::from_word(bin)?, bin_words(rest)?)),
+        _ => None,
+    }
+}
+
+// SESSION BIN, and no more: what stands behind the name of a call.
+fn call(call: Call, words: &[&str]) -> Option<Command>
+    ensures { Reads (Behind (call_text call)) (texts words.now) result }
+{
+    match words {
+        [session, bin] => Some(Command::Call(
+            call,
+            usize::from_word(session)?,
+            usize::from_word(bin)?,
+        )),
+        _ => None,
+    }
+}
+
+// BIN and its four words: what stands behind `load`.
+fn load(words: &[&str]) -> Option<Command>
+    ensures { Reads (Behind (codes "load")) (texts words.now) result }
+{
+    match words {
+        [bin, rest @ ..] => Some(Command::Load(usize::from_word(bin)?, bin_words(rest)?)),
+        _ => None,
+    }
+}
+
+// The command that a verb and the words behind it spell.
+fn command(verb: &str, rest: &[&str]) -> Option<Command>
+    ensures { Reads (Behind verb.now) (texts rest.now) result }
+{
+    match verb {
+        "layout" => setup(rest).map(Command::Layout),
+        "bank" => setup(rest).map(Command::Bank),
+        "load" => load(rest),
+        "open" => rest.is_empty().then_some(Command::Open),
+        "begin" => begin(rest),
+        "step" => one(rest).map(Command::Step),
+        "collect" => one(rest).map(Command::Collect),
+        "ahead" => one(rest).map(Command::Ahead),
+        "peek" => one(rest).map(Command::Peek),
+        "close" => rest.is_empty().then_some(Command::Close),
+        "read" => one(rest).map(Command::Read),
+        "ask" => call(Call::Ask, rest),
+        "push" => call(Call::Push, rest),
+        "leave" => call(Call::Leave, rest),
+        "word" => one(rest).map(Command::Word),
+        "node" => one(rest).map(Command::Node),
+        "poke" => poke(rest),
+        _ => None,
+    }
+}
+
+/// The command that a line's words spell, if they spell one.
 pub fn parse(words: &[&str]) -> Option<Command>
     ensures { ReadAs (texts words.now) result }
 {
     match words {
-        [first, rest @ ..] => command(verb_name(first)?, rest),
+        [verb, rest @ ..] => command(verb, rest),
         _ => None,
     }
 }

@@ -1,23 +1,24 @@
-// The commands of the console, one to a line: docs/CONSOLE.md.
+//! The commands of the console, one to a line: docs/CONSOLE.md.
 use bank::{Call, Sizes};
 
-#[derive(Clone, Copy)]
+/// A lock kind's name.
+#[derive(Clone, Copy, PartialEq, Eq, Debug)]
 pub enum KindName {
     Queuing,
     Ticket,
     Central,
 }
 
-// What a table or a bank is laid out with.
-#[derive(Clone, Copy)]
+/// What a table or a bank is laid out with.
+#[derive(Clone, Copy, PartialEq, Eq, Debug)]
 pub struct Setup {
     pub kind: KindName,
     pub sizes: Sizes,
     pub start: u64,
 }
 
-// The four words of a bin.
-#[derive(Clone, Copy)]
+/// The four words of a bin.
+#[derive(Clone, Copy, PartialEq, Eq, Debug)]
 pub struct BinWords {
     pub article: u32,
     pub quantity: u32,
@@ -25,14 +26,16 @@ pub struct BinWords {
     pub stamp: u32,
 }
 
-#[derive(Clone, Copy)]
+/// What a session does at a bin of the table.
+#[derive(Clone, Copy, PartialEq, Eq, Debug)]
 pub enum Job {
     Lookup,
     Set(BinWords),
     Adjust(i32, u32),
 }
 
-#[derive(Clone, Copy)]
+/// A command, with its numbers in the line's order.
+#[derive(Clone, Copy, PartialEq, Eq, Debug)]
 pub enum Command {
     Layout(Setup),
     Bank(Setup),

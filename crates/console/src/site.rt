@@ -1,92 +1,48 @@
-// What is laid out at present: nothing, or a bank of one kind with its memory.
-ghost use Rattle.bank.specs.KindOf.{kind_of};
-ghost use Rattle.bank.specs.Locks.{locks};
-ghost use Rattle.console.specs.Sites.{CarriesOut, Made, New, Responds, Starts, StartsOver};
+//! What is laid out: a bank of one kind with its memory.
+ghost use Rattle.std.specs.Prelude.{IfOk, IfErr};
+ghost use Rattle.console.specs.Sites.{New, Declines, CarriesOut};
 
-use bank::{Bank, Claim, LockMemory, lengths};
-use central::{Central, Stage};
-use commands::{Command, KindName, Reply, Setup, respond};
+use bank::LaidBank;
+use central::Central;
+use commands::{Command, Declined, KindName, Reply, Setup, respond};
 use std::alloc::Global;
-use ticket::{Ticket, Turn};
+use ticket::Ticket;
 
-#[derive(Drop)]
-pub struct LaidBank<B, R> {
-    bank: B,
-    memory: LockMemory<R>,
-}
-
+/// A bank of one kind with its memory.
 #[derive(Drop)]
 pub enum Site {
-    Empty,
-    Ticket(LaidBank<Ticket, Option<Claim<Turn>>>),
-    Central(LaidBank<Central, Option<Claim<Stage>>>),
+    Ticket(LaidBank<Ticket>),
+    Central(LaidBank<Central>),
 }
 
-// A bank laid out on memory of its own, so that all laws hold of it, or why there is none.
-fn lay_out<B: Bank + Drop>(
-    heap: Global,
-    mut bank: B,
-    record: B::Record,
-    setup: Setup,
-) -> Result<LaidBank<B, B::Record>, Reply>
-where
-    B::Record: Copy,
-    ensures { Made (λ held. Starts (kind_of B.Bank) setup (locks held.bank held.memory)) result }
+fn new_site(alloc: Global, setup: Setup) -> Result<Site, Declined>
+    ensures laid { IfOk result (New setup.kind setup) }
+    ensures declined { IfErr result (Declines setup.kind setup) }
 {
-    let lengths = match lengths::<B>(setup.sizes) {
-        Ok(lengths) => lengths,
-        Err(fault) => return Err(Reply::Refused(fault)),
-    };
-    let Ok(mut memory) = LockMemory::allocate(heap, lengths, record) else {
-        return Err(Reply::NoMemory);
-    };
-    match bank.layout(&mut memory, setup.sizes, setup.start) {
-        Ok(()) => Ok(LaidBank { bank, memory }),
-        Err(fault) => Err(Reply::Refused(fault)),
+    let Setup { kind, sizes, start } = setup;
+    match kind {
+        KindName::Ticket => Ok(Site::Ticket(LaidBank::lay_out(alloc, sizes, start)?)),
+        KindName::Central => Ok(Site::Central(LaidBank::lay_out(alloc, sizes, start)?)),
+        KindName::Queuing => Err(Declined::NotNow),
     }
 }
 
-fn new_site(heap: Global, setup: Setup) -> Result<Site, Reply>
-    ensures { Made (New setup.kind setup) result }
+/// Carries out a command on what is laid out, if anything is. `bank` starts over; a bank that is declined leaves what
+/// was there.
+pub fn run_command(
+    alloc: Global,
+    site: &mut Option<Site>,
+    command: Command,
+) -> Result<Reply, Declined>
+    ensures { CarriesOut site.old command result site.new }
 {
-    match setup.kind {
-        KindName::Ticket => Ok(Site::Ticket(lay_out(heap, Ticket::default(), None, setup)?)),
-        KindName::Central => Ok(Site::Central(lay_out(heap, Central::default(), None, setup)?)),
-        KindName::Queuing => Err(Reply::NotNow),
+    if let Command::Bank(setup) = command {
+        *site = Some(new_site(alloc, setup)?);
+        return Ok(Reply::Laid);
     }
-}
-
-impl Site {
-    // Starts over, or leaves what was there.
-    fn start_over(&mut self, heap: Global, setup: Setup) -> Reply
-        ensures { StartsOver setup self.old result self.new }
-    {
-        match new_site(heap, setup) {
-            Ok(site) => {
-                *self = site;
-                Reply::Laid
-            }
-            Err(reply) => reply,
-        }
-    }
-
-    pub fn respond(&mut self, heap: Global, command: Command) -> Reply
-        ensures { CarriesOut self.old command result self.new }
-    {
-        match command {
-            Command::Bank(setup) => self.start_over(heap, setup),
-            _ => self.ask_bank(command),
-        }
-    }
-
-    // What the bank that is laid out replies; not now if there is none.
-    fn ask_bank(&mut self, command: Command) -> Reply
-        ensures { Responds self.old command result self.new }
-    {
-        match self {
-            Site::Empty => Reply::NotNow,
-            Site::Ticket(held) => respond(&mut held.bank, &mut held.memory, command),
-            Site::Central(held) => respond(&mut held.bank, &mut held.memory, command),
-        }
+    match site {
+        None => Err(Declined::NotNow),
+        Some(Site::Ticket(laid)) => respond(&mut laid.bank, &mut laid.memory, command),
+        Some(Site::Central(laid)) => respond(&mut laid.bank, &mut laid.memory, command),
     }
 }

@@ -1,4 +1,4 @@
-// Scripts: each line with the answer that it must get.
+//! Scripts: each line with the answer that it must get.
 use super::answer;
 use super::site::Site;
 use std::process::Abort;
@@ -8,18 +8,20 @@ type Script<'a> = &'a [(&'a str, &'a str)];
 
 fn replies(
     rt: &(impl Abort + AllocGlobal),
-    site: &mut Site,
+    site: &mut Option<Site>,
     line: &[u8],
     expected: &str,
 ) -> Result<(), Fail> {
-    let reply = answer(rt.alloc(), site, line);
-    let text = reply.to_string(rt.alloc())?;
+    let text = match answer(rt.alloc(), site, line) {
+        Ok(reply) => reply.to_string(rt.alloc())?,
+        Err(declined) => declined.to_string(rt.alloc())?,
+    };
     assert_eq!(rt; text.as_str(), expected, "at {}", line.escape_ascii());
     Ok(())
 }
 
 fn play(rt: &(impl Abort + AllocGlobal), script: Script) -> Result<(), Fail> {
-    let mut site = Site::Empty;
+    let mut site = None;
     for (line, expected) in script {
         replies(rt, &mut site, line.as_bytes(), expected)?;
     }
@@ -221,7 +223,7 @@ fn refusals_by_number_layer_and_place(rt: HostRuntime) -> Result<(), Fail> {
 
 #[test]
 fn bytes_that_are_no_text_are_unreadable(rt: HostRuntime) -> Result<(), Fail> {
-    let mut site = Site::Empty;
+    let mut site = None;
     replies(&rt, &mut site, b"bank ticket 1 1 0", "laid")?;
     replies(&rt, &mut site, b"ask \xff 0", "unreadable")?;
     replies(&rt, &mut site, b"ask 0 0\r", "unreadable")?;

@@ -1,6 +1,6 @@
 -- The nine actions: what each answers and leaves. Session i acts at bin b. An action reads a stored number before it
 -- writes, and refuses by 9 the first one that is out of its range.
-use Rattle.std.specs.Prelude.{ℕ, cond, Some, None, Ok, Err, Option, Result}
+use Rattle.std.specs.Prelude.{ℕ, if◌then◌else◌, Some, None, Ok, Err, Option, Result}
 use Rattle.bank.specs.Claims.{claim}
 use Rattle.bank.specs.Locks.{word_at, node_of, with_word, with_both, with_node}
 use Rattle.bank.specs.Outcome.{Outcome, granted, refused}
@@ -88,7 +88,7 @@ free_with (Ok v) s i b = granted (freed s i b v) Out
 
 abbrev pub try_word : Result Word Fault → State → ℕ → ℕ → Outcome PushAnswer State
 try_word (Err f) s i b = refused s f
-try_word (Ok w) s i b = cond (held_by w i) (free_with (own_version s i) s i b) (granted (staged s i b Open) Moved)
+try_word (Ok w) s i b = if held_by w i then free_with (own_version s i) s i b else granted (staged s i b Open) Moved
 
 abbrev pub try : State → ℕ → ℕ → Outcome PushAnswer State
 try s i b = try_word (lawful_word s b) s i b

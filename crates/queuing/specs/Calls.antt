@@ -1,8 +1,7 @@
 -- What each call of the queuing kind answers and leaves.
-use Rattle.std.specs.Prelude.{ℕ, zero, suc, ◌+◌, Bool, cond, ◌&&◌, length, replicate, Some, None, Ok, Err, Option, Result, nat_lt}
-use Rattle.bank.specs.Claims.{at, at_stage}
-use Rattle.bank.specs.Locks.{fitting, word_at, record_of, node_of}
-use Rattle.bank.specs.Memory.{admits_session, admits_bin, empty_node}
+use Rattle.std.specs.Prelude.{ℕ, zero, suc, ◌+◌, Bool, if◌then◌else◌, ◌&&◌, Some, None, Ok, Err, Option, Result, nat_lt}
+use Rattle.bank.specs.Locks.{fitting, word_at, record_of, node_of, laid_with}
+use Rattle.bank.specs.Memory.{admits_session, admits_bin}
 use Rattle.bank.specs.Outcome.{Outcome, granted, refused}
 use Rattle.bank.specs.Refusals.{bad_size, bad_record, out_of_turn}
 use Rattle.bank.specs.declared.answers.AskAnswer.{AskAnswer}
@@ -16,24 +15,15 @@ use Rattle.queuing.specs.declared.Stage.TheVariants.{Link, See, Close, Inside, T
 use Rattle.queuing.specs.declared.word.Word.{Word}
 use Rattle.queuing.specs.declared.word.Word.TheVariants.{Free}
 use Rattle.queuing.specs.Actions.{exchange, link, see, close, look, try, open_window, await, hand}
-use Rattle.queuing.specs.State.{State, sessions_of, bins_of, nodes_for, entered, remembered_by, own_record, lawful_word, below, needed_below}
+use Rattle.queuing.specs.State.{State, sessions_of, bins_of, nodes_for, entered, remembered_by, own_record, own_stage, lawful_word, below, needed_below}
 use Rattle.queuing.specs.Word.{packed, calm_word, versions}
 
 -- LAYOUT: every word is free at the starting age, nobody has a claim, and every node is empty.
 abbrev pub laid_out : State → Sizes → ℕ → State
-laid_out s z a =
-    record {
-      bank = record { sizes = z };
-      memory =
-          record {
-            words = replicate (length s.memory.words) (packed (Free a));
-            records = replicate (length s.memory.records) None;
-            nodes = replicate (length s.memory.nodes) empty_node;
-          };
-    }
+laid_out s z a = laid_with s (record { sizes = z }) (packed (Free a))
 
 abbrev pub lays : State → Sizes → ℕ → Outcome (Unit {0}) State
-lays s z a = cond (fitting nodes_for s z && nat_lt a versions) (granted (laid_out s z a) tt) (refused s bad_size)
+lays s z a = if fitting nodes_for s z && nat_lt a versions then granted (laid_out s z a) tt else refused s bad_size
 
 -- ASK does the exchange.
 abbrev pub asks_word : Option (Claim Stage) → Result Word Fault → State → ℕ → ℕ → Outcome AskAnswer State
@@ -59,22 +49,20 @@ pushes_at Open s i b = open_window s i b
 pushes_at Await s i b = await s i b
 pushes_at Hand s i b = hand s i
 
-abbrev pub pushes_own : Result (Option (Claim Stage)) Fault → State → ℕ → ℕ → Outcome PushAnswer State
+abbrev pub pushes_own : Result Stage Fault → State → ℕ → ℕ → Outcome PushAnswer State
 pushes_own (Err f) s i b = refused s f
-pushes_own (Ok None) s i b = refused s (out_of_turn i)
-pushes_own (Ok (Some c)) s i b = cond (at b c) (pushes_at c.stage s i b) (refused s (out_of_turn i))
+pushes_own (Ok g) s i b = pushes_at g s i b
 
 abbrev pub pushes : State → ℕ → ℕ → Outcome PushAnswer State
-pushes s i b = pushes_own (own_record s i b) s i b
+pushes s i b = pushes_own (own_stage s i b) s i b
 
 -- LEAVE does the look.
-abbrev pub leaves_own : Result (Option (Claim Stage)) Fault → State → ℕ → ℕ → Outcome LeaveAnswer State
+abbrev pub leaves_own : Result Stage Fault → State → ℕ → ℕ → Outcome LeaveAnswer State
 leaves_own (Err f) s i b = refused s f
-leaves_own (Ok None) s i b = refused s (out_of_turn i)
-leaves_own (Ok (Some c)) s i b = cond (at_stage entered b c) (look s i b) (refused s (out_of_turn i))
+leaves_own (Ok g) s i b = if entered g then look s i b else refused s (out_of_turn i)
 
 abbrev pub leaves : State → ℕ → ℕ → Outcome LeaveAnswer State
-leaves s i b = leaves_own (own_record s i b) s i b
+leaves s i b = leaves_own (own_stage s i b) s i b
 
 -- PEEK: the word is the mark.
 abbrev pub peeks_word : Result (Unit {0}) Fault → Result Word Fault → ℕ → Result (ℕ × Bool) Fault
@@ -117,7 +105,7 @@ counted (suc k) s i j n = count_on (behind s j) n (λ p. counted k s i p (n + 1)
 abbrev pub counts_own : Result (Unit {0}) Fault → Option (Claim Stage) → State → ℕ → Result (Option ℕ) Fault
 counts_own (Err f) r s i = Err f
 counts_own (Ok u) None s i = Ok None
-counts_own (Ok u) (Some c) s i = cond (nat_lt c.bin (bins_of s)) (counted (sessions_of s) s i i 0) (Err (bad_record i))
+counts_own (Ok u) (Some c) s i = if nat_lt c.bin (bins_of s) then counted (sessions_of s) s i i 0 else Err (bad_record i)
 
 abbrev pub counts : State → ℕ → Result (Option ℕ) Fault
 counts s i = counts_own (admits_session (nodes_for s.bank.sizes) s.bank.sizes s.memory i) (record_of s i) s i

@@ -1,6 +1,6 @@
 -- What a call at one bin leaves at the others, and that it keeps the invariant if it keeps its own bin's line.
-use Rattle.std.specs.Prelude.{◌≡◌, ℕ, ◌<◌, Bool, true, false, List, [], ◌∷◌, length, get_or, Some, None, Option, ◌≢◌, slice_index, slice_index_or, slice_set, refl}
-use Rattle.std.proofs.Common.{inl, ⊎_elim, sym, ap, subst, ◌∙◌, arith}
+use Rattle.std.specs.Prelude.{◌≡◌, ℕ, ◌<◌, true, false, List, [], ◌∷◌, length, get_or, Some, None, Option, ◌≢◌, slice_index, slice_index_or, slice_set, refl}
+use Rattle.std.proofs.Common.{inl, ⊎_elim, sym, ap, subst, ◌∙◌}
 use Rattle.std.proofs.lemmas.List.{get_or-set_same, get_or-set_other, length-set}
 use Rattle.std.proofs.lemmas.Bool.{cases_eq, true≢false}
 use Rattle.bank.specs.Claims.{passes, at, at_stage, askers}
@@ -9,15 +9,15 @@ use Rattle.bank.specs.Locks.{word_at, record_of, node_of}
 use Rattle.bank.specs.Memory.{in_range, empty_node}
 use Rattle.bank.specs.declared.memory.Claim.{Claim}
 use Rattle.bank.specs.declared.memory.Node.{Node}
-use Rattle.bank.proofs.Askers.{not_at}
-use Rattle.bank.proofs.Claims.{passes_set, found_set, write_cases}
+use Rattle.bank.proofs.Askers.{same_stage, same_askers, same_inside}
+use Rattle.bank.proofs.Claims.{passes_set, write_cases}
 use Rattle.queuing.specs.declared.Stage.{Stage}
 use Rattle.queuing.specs.declared.word.Word.{Word}
 use Rattle.queuing.specs.declared.word.Word.TheVariants.{Free, Held, Window}
 use Rattle.queuing.specs.Meaning.{age_with, age_from, version_or_zero}
 use Rattle.queuing.specs.State.{State, sessions_of, bins_of, entered, has_left}
 use Rattle.queuing.specs.Word.{calm_of}
-use Rattle.queuing.specs.Invariant.{Bin, Invariant, lengths, line_is}
+use Rattle.queuing.specs.Invariant.{Bin, Invariant, own_place, line_is}
 use Rattle.queuing.specs.Kind.{queuing}
 use Rattle.queuing.specs.Lines.{In}
 use Rattle.queuing.specs.Meanings.{age_told}
@@ -64,17 +64,14 @@ module _
   t = altered s i ws r ns
 
   pub record_there : i < length s.memory.records
-  record_there = let z = lengths I in let h = C.session in omega arith
+  record_there = (own_place I C.session).0
 
   pub own_record : Changed (record_of s) (record_of t) i r
   own_record = set_changed s.memory.records i r None record_there
 
   module _ (c : ℕ) (n : c ≡ b → ⊥) where
-    same_askers : (j : ℕ) → askers t c j ≡ askers s c j
-    same_askers j = passes_set (at c) s.memory.records i r j (C.new c n ∙ sym (C.old c n))
-
-    same_test : (f : Stage → Bool) → passes (at_stage f c) r ≡ passes (at_stage f c) (record_of s i)
-    same_test f = not_at f r c (C.new c n) ∙ sym (not_at f (record_of s i) c (C.old c n))
+    asks_same : (j : ℕ) → askers t c j ≡ askers s c j
+    asks_same = same_askers s ws i r c (C.new c n) (C.old c n)
 
     member_record : {w : Word} {l : List ℕ} → Bin s c w l → (j : ℕ) → In j l → record_of t j ≡ record_of s j
     member_record B j h =
@@ -87,7 +84,7 @@ module _
     bin_stays l B =
         record {
           stored = C.words c n ∙ B.stored;
-          stands = elsewhere l B.stands (member_record B) (member_node B) same_askers;
+          stands = elsewhere l B.stands (member_record B) (member_node B) asks_same;
         }
 
     pub same_elsewhere : Invariant t → c < bins_of s → Same queuing s t c
@@ -97,9 +94,9 @@ module _
         let B = (I.bin c h).2 in
         let D = bin_stays l B in
         record {
-          askers = same_askers;
-          leaving = λ j. passes_set (at_stage has_left c) s.memory.records i r j (same_test has_left);
-          inside = found_set (at_stage entered c) 0 s.memory.records i r (same_test entered);
+          askers = asks_same;
+          leaving = λ j. passes_set (at_stage has_left c) s.memory.records i r j (same_stage s ws i r c (C.new c n) (C.old c n) has_left);
+          inside = same_inside s ws i r c (C.new c n) (C.old c n) entered;
           age = age_told J D ∙ age_same s t w l (member_record B) (member_node B) ∙ sym (age_told I B);
           calm = ap calm_of (C.words c n);
           mark = C.words c n;

@@ -15,7 +15,6 @@ use Rattle.bank.specs.declared.answers.PushAnswer.{PushAnswer}
 use Rattle.bank.specs.declared.answers.PushAnswer.TheVariants.{Waits, Moved, In, Out}
 use Rattle.bank.specs.declared.memory.Claim.{Claim}
 use Rattle.bank.proofs.Claims.{some_none}
-use Rattle.bank.proofs.Distinct.{push_number, out_moved}
 use Rattle.bank.proofs.Effects as effects
 use Rattle.bank.proofs.Itself.{same_self}
 use Rattle.queuing.specs.declared.Stage.{Stage}
@@ -146,7 +145,7 @@ module _ {s t : State} {i b : ℕ} where
   moves_fair g h a m l =
       let old = ap needed_by m.read in
       let new = own_needs m.step in
-      effects.fair_advances queuing s t i b Moved (omega arith) (omega arith) a (omega arith) (others_need m.step) m.line
+      effects.fair_advances queuing s t i b Moved (λ e. cc) (λ e. cc) a (omega arith) (others_need m.step) m.line
 
   enters_effect : (pushes s i b).answer ≡ Ok In → Enters s t i b Close → PushEffect queuing s t i b
   enters_effect a m =
@@ -165,7 +164,7 @@ module _ {s t : State} {i b : ℕ} where
   enters_fair a m =
       let old = ap needed_by m.read in
       let new = own_needs m.step in
-      effects.fair_advances queuing s t i b In (omega arith) (omega arith) a (omega arith) (others_need m.step) m.line
+      effects.fair_advances queuing s t i b In (λ e. cc) (λ e. cc) a (omega arith) (others_need m.step) m.line
 
   exits_effect :
       (g : Stage) → (pushes s i b).answer ≡ Ok Out → Exits s t i b g → has_left g ≡ true → PushEffect queuing s t i b
@@ -197,12 +196,12 @@ link_moves s i b p I r = go (pushes s i b) (pushed I (push_view s i b))
     needs e = sym (ap needed_by e) ∙ ap needed_by r
 
     go : (o : Outcome PushAnswer State) → Pushed s i b o → o.answer ≢ Ok Waits
-    go o (refused_push f) a = omega (arith, ap push_number a)
+    go o (refused_push f) a = cc
     go o (waits (for_version q x e)) a = omega (arith, needs x.read)
     go o (waits (for_next x e)) a = omega (arith, needs x.read)
-    go o (moves g x m l n) a = omega (arith, ap push_number a)
-    go o (enters m) a = omega (arith, ap push_number a)
-    go o (exits g m l n) a = omega (arith, ap push_number a)
+    go o (moves g x m l n) a = cc
+    go o (enters m) a = cc
+    go o (exits g m l n) a = cc
 
 module _ (s : State) (i b : ℕ) (I : Invariant s) where
   waits_fair : (pushes s i b).answer ≡ Ok Waits → Waiting s i b → FairPush queuing s s i b
@@ -265,7 +264,7 @@ module _ {s t : State} {i b : ℕ} (h : Stage) (a : (leaves s i b).answer ≡ Ok
         few_pushes_needed = let e = own_needs m.step in omega arith;
         no_other_needs_more = others_need m.step;
         line_stays = λ _. m.line;
-        out_goes_first = λ e. out_moved (sym e ∙ a);
+        out_goes_first = λ e. cc;
       }
 
 pub leave_laws :

@@ -11,7 +11,7 @@ use Rattle.bank.specs.declared.answers.AskAnswer.{AskAnswer}
 use Rattle.bank.specs.declared.answers.LeaveAnswer.{LeaveAnswer}
 use Rattle.bank.specs.declared.answers.PushAnswer.{PushAnswer}
 use Rattle.bank.specs.declared.memory.Sizes.{Sizes}
-use Rattle.bank.proofs.Admission.{sized, session_unfit, bin_unfit, own_unfit}
+use Rattle.bank.proofs.Admission.{session_unfit, bin_unfit, own_unfit}
 use Rattle.bank.proofs.Itself.{kept_self}
 use Rattle.bank.proofs.Layouts.{layout_granted, layout_refused}
 use Rattle.queuing.specs.Calls.{laid_out, lays, asks, pushes, leaves}
@@ -37,15 +37,6 @@ laid_out_means s z a h =
       starting_age = λ b k. empty_age I (laid_bin s z a g.0 g.1 b k);
       empty_line = λ b k. line_is I (laid_bin s z a g.0 g.1 b k);
     })
-
--- layout leaves the same from all that fits
-pub laid_alike :
-    (s t : State) (z : Sizes) (a : ℕ) → fitting nodes_for s z ≡ true → fitting nodes_for t z ≡ true →
-    laid_out t z a ≡ laid_out s z a
-laid_alike s t z a h k =
-    let x = sized z.sessions z s.memory h in
-    let y = sized z.sessions z t.memory k in
-    rw (x.words, x.records, x.nodes, y.words, y.records, y.nodes)
 
 -- REFUSALS, and the sizes
 pub refused_alters_nothing : (s : State) (i b : ℕ) → RefusedAltersNothing queuing s i b

@@ -32,6 +32,10 @@ pub record Invariant (s : State) : Type 0 where
 pub lengths : {s : State} → Invariant s → Sized (sessions_of s) s.bank.sizes s.memory
 lengths {s} I = sized (sessions_of s) s.bank.sizes s.memory I.fit
 
+-- a session has a record and a node
+pub own_place : {s : State} {i : ℕ} → Invariant s → i < sessions_of s → (i < length s.memory.records) × (i < length s.memory.nodes)
+own_place I h = let z = lengths I in (omega arith, omega arith)
+
 module _ {s : State} {b : ℕ} {w : Word} {l : List ℕ} (I : Invariant s) (B : Bin s b w l) where
   pub member_there : (j : ℕ) → In j l → j < sessions_of s
   member_there j h = asker_session s (sessions_of s) s.bank.sizes b j I.fit (in_asks B.stands j h)

@@ -4,16 +4,18 @@ use Rattle.std.specs.Prelude.{None, refl}
 use Rattle.std.proofs.lemmas.Bool.Decides.{nat_tests}
 use Rattle.bank.specs.Laws.{Lawful}
 use Rattle.bank.proofs.Itself.{whole_state_decides}
-use Rattle.bank.proofs.Layouts.{some_state, layout_rule, layouts_alike}
+use Rattle.bank.proofs.Layouts.{some_state, layout_rule, layouts_alike, laid_alike}
 use Rattle.bank.proofs.Marks.{mark_rule}
+use Rattle.queuing.specs.declared.word.Word.TheVariants.{Free}
 use Rattle.queuing.specs.Calls.{laid_out}
 use Rattle.queuing.specs.State.{nodes_for}
 use Rattle.queuing.specs.Effects.{ask_laws, push_laws, leave_laws}
-use Rattle.queuing.specs.EveryState.{laid_out_means, laid_alike, refused_alters_nothing, calls_keep_sizes, unfit_is_refused}
+use Rattle.queuing.specs.EveryState.{laid_out_means, refused_alters_nothing, calls_keep_sizes, unfit_is_refused}
 use Rattle.queuing.specs.Kind.{queuing}
 use Rattle.queuing.specs.Meanings.{bin_meaning, asker_exists, line_meaning}
 use Rattle.queuing.specs.Reachable.{reached_invariant}
 use Rattle.queuing.specs.Rules.{ask_rule, push_rule, leave_rule, peek_rule, ahead_rule}
+use Rattle.queuing.specs.Word.{packed}
 
 pub queuing_lawful : Lawful queuing
 queuing_lawful =
@@ -23,7 +25,7 @@ queuing_lawful =
       some_state = some_state nodes_for (λ z. record { sizes = z }) None;
       layout_rule = layout_rule queuing laid_out (λ s z a. refl);
       laid_out = laid_out_means;
-      laid_out_alike = layouts_alike queuing laid_out (λ s z a. refl) laid_alike;
+      laid_out_alike = layouts_alike queuing laid_out (λ s z a. refl) (λ s t z a. laid_alike z.sessions (packed (Free a)) s t z);
       effective_decides = whole_state_decides queuing (λ s. refl);
       refused_alters_nothing = refused_alters_nothing;
       calls_keep_sizes = calls_keep_sizes;

@@ -1,7 +1,7 @@
 pub mod Word
 pub mod State
-pub mod Lent
 pub mod Actions
+pub mod Actor
 pub mod Calls
 pub mod Meaning
 pub mod Lawful
@@ -14,6 +14,7 @@ pub mod Words
 pub mod Kind
 pub mod Meanings
 pub mod Steps
+pub mod Stages
 pub mod Changes
 pub mod Views
 pub mod Ways

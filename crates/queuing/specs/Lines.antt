@@ -1,9 +1,10 @@
 -- Lines as lists of sessions: who stands in one, nobody twice, and who is last.
-use Rattle.std.specs.Prelude.{◌≡◌, ℕ, zero, suc, ◌<◌, ◌≤◌, Bool, true, false, cond, ◌||◌, ◌⊎◌, List, [], ◌∷◌, ◌++◌, length, ◌==◌, ◌≢◌, refl}
-use Rattle.std.proofs.Common.{inl, inr, ⊎_elim, sym, ap, subst, ◌∙◌, arith}
-use Rattle.std.proofs.lemmas.Bool.{false≢true, eqb-true, eqb-false, eq-eqb, ne_eqb, or_cases, or_left, or_right, cond_both, cond-false}
+use Rattle.std.specs.Prelude.{◌≡◌, ℕ, ◌<◌, ◌≤◌, Bool, true, false, ◌||◌, ◌⊎◌, List, [], ◌∷◌, ◌++◌, length, ◌==◌, refl}
+use Rattle.std.proofs.Common.{eqb, inl, inr, ⊎_elim, sym, ap, ◌∙◌}
+use Rattle.std.specs.List.{AllByRecursion, IsDistinct, list_any}
+use Rattle.std.proofs.lemmas.Map.Steps.{length-le_from_distinct_below}
+use Rattle.std.proofs.lemmas.Bool.{false≢true, eqb-true, eq-eqb, ne_eqb, or_cases, or_left, or_right, false_from_ne_true}
 use Rattle.bank.specs.Kind.{has}
-use Rattle.bank.proofs.Claims.{untrue}
 
 abbrev pub In : ℕ → List ℕ → Type 0
 In i [] = ⊥
@@ -29,13 +30,9 @@ in_has i (x ∷ xs) (inl h) = or_left (i == x) (has i xs) (eq-eqb i x h)
 in_has i (x ∷ xs) (inr h) = or_right (i == x) (has i xs) (in_has i xs h)
 
 pub not_in_has : (i : ℕ) (l : List ℕ) → (In i l → ⊥) → has i l ≡ false
-not_in_has i l n = untrue (has i l) (λ e. n (has_in i l e))
+not_in_has i l n = false_from_ne_true (has i l) (λ e. n (has_in i l e))
 
 -- ONE MORE at the end
-or_false : (t : Bool) → (t || false) ≡ t
-or_false true = refl
-or_false false = refl
-
 or_swap : (t u v : Bool) → (t || (u || v)) ≡ (u || (t || v))
 or_swap true true v = refl
 or_swap true false v = refl
@@ -68,62 +65,18 @@ middle_in i [] rest = inl refl
 middle_in i (x ∷ xs) rest = inr (middle_in i xs rest)
 
 -- A LINE IS SHORT: sessions below n, nobody twice, are at most n.
--- the line without m
-abbrev without : ℕ → List ℕ → List ℕ
-without m [] = []
-without m (y ∷ ys) = cond (y == m) (without m ys) (y ∷ without m ys)
+apart_others : (x : ℕ) (l : List ℕ) → (In x l → ⊥) → AllByRecursion (λ y. eqb x y ≡ false) l
+apart_others x [] n = tt
+apart_others x (y ∷ ys) n = (ne_eqb x y (λ e. n (inl e)), apart_others x ys (λ k. n (inr k)))
 
-without_in : (x m : ℕ) (l : List ℕ) → In x (without m l) → In x l × (x ≢ m)
-without_in x m [] h = absurd h
-without_in x m (y ∷ ys) h =
-    cond_both
-    (y == m)
-    (without m ys)
-    (y ∷ without m ys)
-    (λ l. In x l → In x (y ∷ ys) × (x ≢ m))
-    (λ e k. let w = without_in x m ys k in (inr w.0, w.1))
-    (λ e k. ⊎_elim (λ q. (inl q, λ z. eqb-false y m e (sym q ∙ z))) (λ q. let w = without_in x m ys q in (inr w.0, w.1)) k)
-    h
+apart_distinct : (l : List ℕ) → Apart l → IsDistinct eqb l
+unfolding IsDistinct
+apart_distinct [] a = tt
+apart_distinct (x ∷ xs) a = (apart_others x xs a.0, apart_distinct xs a.1)
 
-without_apart : (m : ℕ) (l : List ℕ) → Apart l → Apart (without m l)
-without_apart m [] a = a
-without_apart m (y ∷ ys) a =
-    cond_both
-    (y == m)
-    (without m ys)
-    (y ∷ without m ys)
-    Apart
-    (λ e. without_apart m ys a.1)
-    (λ e. (λ k. a.0 (without_in y m ys k).0, without_apart m ys a.1))
-
-without_none : (m : ℕ) (l : List ℕ) → (In m l → ⊥) → without m l ≡ l
-without_none m [] n = refl
-without_none m (y ∷ ys) n =
-    cond-false (y == m) (without m ys) (y ∷ without m ys) (ne_eqb y m (λ e. n (inl (sym e))))
-    ∙ ap (λ l. y ∷ l) (without_none m ys (λ k. n (inr k)))
-
-without_length : (m : ℕ) (l : List ℕ) → Apart l → length l ≤ suc (length (without m l))
-without_length m [] a = omega arith
-without_length m (y ∷ ys) a =
-    cond_both
-    (y == m)
-    (without m ys)
-    (y ∷ without m ys)
-    (λ l. suc (length ys) ≤ suc (length l))
-    (λ e.
-    let n : In m ys → ⊥ = λ k. a.0 (subst (λ x. In x ys) (sym (eqb-true y m e)) k) in
-    let k = ap length (without_none m ys n) in
-    omega arith)
-    (λ e. let k = without_length m ys a.1 in omega arith)
+any_has : (i : ℕ) (l : List ℕ) → list_any (eqb i) l ≡ has i l
+any_has i [] = refl
+any_has i (x ∷ xs) = ap (λ t. (i == x) || t) (any_has i xs)
 
 pub few : (n : ℕ) (l : List ℕ) → Apart l → ((j : ℕ) → In j l → j < n) → length l ≤ n
-few zero [] a h = omega arith
-few zero (x ∷ xs) a h = let k = h x (inl refl) in absurd (omega arith)
-few (suc m) l a h =
-    let below : (j : ℕ) → In j (without m l) → j < m = λ j k. let w = without_in j m l k in less (h j w.0) w.1 in
-    let k = few m (without m l) (without_apart m l a) below in
-    let o = without_length m l a in
-    omega arith
-  where
-    less : {j : ℕ} → j < suc m → (j ≢ m) → j < m
-    less p q = omega arith
+few n l a h = length-le_from_distinct_below l n (apart_distinct l a) (λ j e. h j (has_in j l (sym (any_has j l) ∙ e)))

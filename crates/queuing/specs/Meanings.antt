@@ -1,16 +1,16 @@
 -- What a state with the invariant means at each bin.
 use Rattle.std.specs.Prelude.{◌≡◌, ℕ, ◌^◌, ◌<◌, Bool, true, false, cond, ◌⊎◌, List, [], ◌∷◌, Some, None, ◌==◌, ◌≢◌, refl}
 use Rattle.std.proofs.Common.{inl, inr, ⊎_elim, sym, ap, subst, ◌∙◌}
-use Rattle.std.proofs.lemmas.Bool.{true≢false, false≢true, and_right}
+use Rattle.std.proofs.lemmas.Bool.{true≢false, false≢true, and_right, false_from_ne_true}
+use Rattle.std.proofs.lemmas.Option.{same_Some}
 use Rattle.bank.specs.Claims.{passes, at_stage, askers, claim}
 use Rattle.bank.specs.Kind.{has}
 use Rattle.bank.specs.Laws.{BinMeaning, AskerExists, LineMeaning}
 use Rattle.bank.specs.Locks.{word_at, record_of, node_of}
 use Rattle.bank.specs.declared.memory.Claim.{Claim}
 use Rattle.bank.proofs.Askers.{one_bin, asker_session, asker_in_range}
-use Rattle.bank.proofs.Claims.{some_same, some_none, stage_claim, claim_asker, inside_claim, nobody_inside, one_inside}
+use Rattle.bank.proofs.Claims.{some_none, stage_claim, claim_asker, inside_claim, nobody_inside, one_inside}
 use Rattle.queuing.specs.declared.Stage.{Stage}
-use Rattle.queuing.specs.declared.Stage.TheVariants.{Link, See, Close, Inside, Try, Open, Await, Hand}
 use Rattle.queuing.specs.declared.word.Word.{Word}
 use Rattle.queuing.specs.declared.word.Word.TheVariants.{Free, Held, Window}
 use Rattle.queuing.specs.Meaning.{inside, calm, line, age_at, age_with, age_from, age, version_or_zero}
@@ -19,6 +19,7 @@ use Rattle.queuing.specs.Word.{versions, unpacked, calm_word, calm_said, version
 use Rattle.queuing.specs.Invariant.{Bin, Invariant, age_below, within, said_is, line_is}
 use Rattle.queuing.specs.Kind.{queuing}
 use Rattle.queuing.specs.Queue.{Behind, First, may_be_open, behind_none, behind_remembers, behind_someone, asker_in, in_asks}
+use Rattle.queuing.specs.Stages.{only_inside, entered_forgets, entered_stays, left_forgets}
 use Rattle.queuing.specs.Words.{unpacked_packed, within_most, packed_fits}
 
 -- a claim is at its bin and its stage, and at one stage
@@ -26,7 +27,7 @@ pub claim_is : {b : ℕ} (c : Claim Stage) → c.bin ≡ b → Some c ≡ Some (
 claim_is c e = ap (λ x. Some (claim x c.stage)) e
 
 pub same_stage : {b : ℕ} {g h : Stage} → Some (claim b g) ≡ Some (claim b h) → g ≡ h
-same_stage {b} {g} {h} e = ap (λ (c : Claim Stage). c.stage) (some_same (claim b g) (claim b h) e)
+same_stage {b} {g} {h} e = ap (λ (c : Claim Stage). c.stage) (same_Some (claim b g) (claim b h) e)
 
 -- THE FIRST IN LINE: session i leads the line at bin b, at stage g with version v
 pub record Leader (s : State) (b : ℕ) (w : Word) (i : ℕ) (rest : List ℕ) (g : Stage) (v : ℕ) : Type 0 where
@@ -97,26 +98,6 @@ some_leader [] i g B e = absurd (asker_in B.stands i g e)
 some_leader (f ∷ rest) i g B e = (f, rest, B.stands.queue.0, B.stands.queue.1, leader_of B)
 
 -- THE ONE INSIDE is the first in line, once it has entered
-pub entered_forgets : (g : Stage) → entered g ≡ true → remembered g ≡ None
-entered_forgets (Link p) e = absurd (false≢true e)
-entered_forgets (See p) e = absurd (false≢true e)
-entered_forgets Close e = refl
-entered_forgets Inside e = refl
-entered_forgets Try e = refl
-entered_forgets Open e = refl
-entered_forgets Await e = refl
-entered_forgets Hand e = refl
-
-pub left_forgets : (g : Stage) → has_left g ≡ true → remembered g ≡ None
-left_forgets (Link p) e = absurd (false≢true e)
-left_forgets (See p) e = absurd (false≢true e)
-left_forgets Close e = refl
-left_forgets Inside e = refl
-left_forgets Try e = refl
-left_forgets Open e = refl
-left_forgets Await e = refl
-left_forgets Hand e = refl
-
 pub empty_inside : {s : State} {b : ℕ} {w : Word} → Bin s b w [] → inside s b ≡ None
 empty_inside {s} {b} B = nobody_inside entered s b (λ j c e q h. out j c (sym e) q)
   where
@@ -177,14 +158,7 @@ calm_age s (Held n) l e = absurd (false≢true e)
 calm_age s (Window n a) l e = refl
 
 open_outside : (g : Stage) → may_be_open g ≡ true → entered g ≡ false
-open_outside (Link p) e = refl
-open_outside (See p) e = refl
-open_outside Close e = refl
-open_outside Inside e = absurd (false≢true e)
-open_outside Try e = refl
-open_outside Open e = refl
-open_outside Await e = refl
-open_outside Hand e = refl
+open_outside g e = false_from_ne_true (entered g) (λ h. true≢false (sym e ∙ ap may_be_open (only_inside g h)))
 
 calm_outside : {s : State} {b : ℕ} (w : Word) (l : List ℕ) → Bin s b w l → calm_word w ≡ true → inside s b ≡ None
 calm_outside w [] B e = empty_inside B
@@ -210,16 +184,6 @@ age_small w (f ∷ rest) I B =
     let g = B.stands.queue.0 in
     let v = B.stands.queue.1 in
     subst (λ x. x < versions) (sym (leader_age w I (leader_of B))) (age_below g v B.stands.queue.2.below)
-
-entered_stays : (g : Stage) → entered g ≡ true → has_left g ≡ false
-entered_stays (Link p) e = refl
-entered_stays (See p) e = refl
-entered_stays Close e = refl
-entered_stays Inside e = refl
-entered_stays Try e = absurd (false≢true e)
-entered_stays Open e = absurd (false≢true e)
-entered_stays Await e = absurd (false≢true e)
-entered_stays Hand e = absurd (false≢true e)
 
 pub bin_meaning : (s : State) (b : ℕ) → Invariant s → b < bins_of s → BinMeaning queuing s b
 bin_meaning s b I h =

@@ -2,12 +2,13 @@
 use Rattle.std.specs.Prelude.{◌≡◌, ℕ, ◌+◌, ◌-◌, ◌%◌, ◌<◌, Bool, true, false, not, ◌&&◌, ◌||◌, List, [], ◌∷◌, ◌++◌, Some, None, Option, ◌==◌, ◌≢◌, refl}
 use Rattle.std.proofs.Common.{inl, inr, ⊎_elim, sym, ap, subst, ◌∙◌, arith}
 use Rattle.std.proofs.lemmas.Bool.{eq-eqb, ne_eqb, cases_eq, true≢false}
+use Rattle.std.proofs.lemmas.Option.{same_Some}
 use Rattle.bank.specs.Claims.{passes, at, claim}
 use Rattle.bank.specs.Kind.{has}
 use Rattle.bank.specs.Memory.{empty_node}
 use Rattle.bank.specs.declared.memory.Claim.{Claim}
 use Rattle.bank.specs.declared.memory.Node.{Node}
-use Rattle.bank.proofs.Claims.{some_same, some_none}
+use Rattle.bank.proofs.Claims.{some_none}
 use Rattle.queuing.specs.declared.Stage.{Stage}
 use Rattle.queuing.specs.declared.Stage.TheVariants.{Link, See, Close, Inside, Try, Open, Await, Hand}
 use Rattle.queuing.specs.declared.word.Word.{Word}
@@ -143,7 +144,7 @@ chain_push (goes_on {q} d c) i hr r n =
 pub to_link_finds :
     {R : Records} {N : Nodes} {b r p i : ℕ} → R i ≡ Some (claim b (Link p)) → Behind R N b r i →
     (r ≡ p) × ((N r).next ≡ None)
-to_link_finds {R} {N} {b} {r} {p} e (to_link f v n) = (some_same r p (ap remembered_by (sym f ∙ e)), n)
+to_link_finds {R} {N} {b} {r} {p} e (to_link f v n) = (same_Some r p (ap remembered_by (sym f ∙ e)), n)
 to_link_finds e (linked f v n) = absurd (omega (arith, ap needed_by (sym f ∙ e)))
 
 -- session i links itself to the node p before it
@@ -332,7 +333,7 @@ link_behind {w} {R} {N} {b} {f} {i} {p} {v} {rest} {g} S F own =
     not_first : f ≡ i → ⊥
     not_first e =
         leads_not g
-        (ap (λ (c : Claim Stage). c.stage) (some_same (claim b g) (claim b (Link p)) (sym F.claims ∙ ap R e ∙ own)))
+        (ap (λ (c : Claim Stage). c.stage) (same_Some (claim b g) (claim b (Link p)) (sym F.claims ∙ ap R e ∙ own)))
         F.leads
 
 pub link_keeps :

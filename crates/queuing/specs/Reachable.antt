@@ -12,7 +12,6 @@ use Rattle.bank.specs.declared.answers.LeaveAnswer.{LeaveAnswer}
 use Rattle.bank.specs.declared.answers.PushAnswer.{PushAnswer}
 use Rattle.bank.specs.declared.memory.Sizes.{Sizes}
 use Rattle.bank.proofs.Admission.{sized}
-use Rattle.bank.proofs.Claims.{get_or_replicate_none}
 use Rattle.bank.proofs.Layouts.{layout_granted}
 use Rattle.queuing.specs.declared.word.Word.TheVariants.{Free}
 use Rattle.queuing.specs.Calls.{laid_out, lays}
@@ -34,7 +33,7 @@ module _ (s : State) (z : Sizes) (a : ℕ) (h : fitting nodes_for s z ≡ true) 
   laid_fit = simp length-replicate h
 
   pub laid_record : (i : ℕ) → record_of (laid_out s z a) i ≡ None
-  laid_record i = get_or_replicate_none (length s.memory.records) i
+  laid_record i = get_or_filled (length s.memory.records) i None
 
   pub laid_bin : a < versions → (b : ℕ) → b < z.bins → Bin (laid_out s z a) b (Free a) []
   laid_bin l b k =

@@ -1,44 +1,69 @@
 -- When each call at a state with the invariant is refused, with which fault, and when it is granted.
-use Rattle.std.specs.Prelude.{◌≡◌, ℕ, ◌<◌, true, false, cond, List, [], ◌∷◌, ◌++◌, length, is_ok, Some, None, Ok, Err, Option, ◌≢◌, refl}
+use Rattle.std.specs.Prelude.{◌≡◌, ℕ, ◌<◌, ◌≤◌, Bool, true, false, cond, List, [], ◌∷◌, ◌++◌, length, is_ok, Some, None, Ok, Err, Option, ◌≢◌, refl}
 use Rattle.std.proofs.Common.{inl, inr, sym, ap, subst, ◌∙◌, arith}
 use Rattle.std.proofs.lemmas.List.{append_assoc, length-append}
-use Rattle.std.proofs.lemmas.Bool.{eq-eqb, lt-ltb, true≢false, false≢true, cond_both}
-use Rattle.bank.specs.Claims.{passes, at, at_stage, askers, claim}
+use Rattle.std.proofs.lemmas.Bool.{eq-eqb, lt-ltb, true≢false, cond_both, false_from_ne_true}
+use Rattle.std.proofs.lemmas.Option.{same_Some}
+use Rattle.bank.specs.Claims.{passes, at, askers, claim}
 use Rattle.bank.specs.Laws.{AskRule, PushRule, LeaveRule, PeekRule, AheadRule}
 use Rattle.bank.specs.Locks.{word_at, record_of, node_of}
+use Rattle.bank.specs.Memory.{stage_at}
 use Rattle.bank.specs.Outcome.{Outcome}
-use Rattle.bank.specs.Refusals.{out_of_turn}
+use Rattle.bank.specs.Refusals.{no_session, no_bin, out_of_turn}
 use Rattle.bank.specs.declared.answers.PushAnswer.{PushAnswer}
 use Rattle.bank.specs.declared.memory.Claim.{Claim}
 use Rattle.bank.proofs.Admission.{session_missing, session_there, bin_missing, bin_there, own_no_session, own_no_bin, own_there}
 use Rattle.bank.proofs.Askers.{no_claim}
-use Rattle.bank.proofs.Claims.{some_same, untrue, at_stage_parts, asker_claim, inside_claim}
+use Rattle.bank.proofs.Claims.{asker_claim, inside_claim}
 use Rattle.queuing.specs.declared.Stage.{Stage}
 use Rattle.queuing.specs.declared.Stage.TheVariants.{Link, See, Close, Inside, Try, Open, Await, Hand}
 use Rattle.queuing.specs.declared.word.Word.{Word}
 use Rattle.queuing.specs.declared.word.Word.TheVariants.{Free, Held, Window}
 use Rattle.queuing.specs.Actions.{exchange, see_own, try_word, look_own, await_own}
-use Rattle.queuing.specs.Calls.{pushes, pushes_at, leaves, counts, counted}
+use Rattle.queuing.specs.Calls.{pushes, pushes_at, pushes_own, leaves, counts, counted}
 use Rattle.queuing.specs.Meaning.{inside, line}
-use Rattle.queuing.specs.State.{State, sessions_of, bins_of, entered, own_record, lawful, lawful_word, own_version}
+use Rattle.queuing.specs.State.{State, sessions_of, bins_of, entered, own_record, own_stage, lawful, lawful_word, own_version}
 use Rattle.queuing.specs.Word.{held_by, versions}
 use Rattle.queuing.specs.Invariant.{Bin, Invariant, member_there, short, said_is, line_is}
 use Rattle.queuing.specs.Kind.{queuing}
 use Rattle.queuing.specs.Lines.{In, last_push, middle_in}
-use Rattle.queuing.specs.Meanings.{claim_is, Leader, leads, versioned_leads, some_leader, entered_forgets, leader_inside, calm_told}
+use Rattle.queuing.specs.Meanings.{claim_is, Leader, leads, versioned_leads, some_leader, leader_inside, calm_told}
 use Rattle.queuing.specs.Queue.{in_asks}
 use Rattle.queuing.specs.Steps.{links_to_member}
-use Rattle.queuing.specs.Views.{At, only_inside}
+use Rattle.queuing.specs.Stages.{only_inside, entered_forgets}
+use Rattle.queuing.specs.Views.{At}
 use Rattle.queuing.specs.Walk.{counted_is}
 use Rattle.queuing.specs.Ways.{leader_at, next_second}
 
 -- WHAT IS READ is in its range
 module _ {s : State} (I : Invariant s) where
+  session_missed : (i b : ℕ) → sessions_of s ≤ i → own_record s i b ≡ Err (no_session i)
+  session_missed i b h = own_no_session (sessions_of s) s.bank.sizes s.memory i b I.fit h
+
+  bin_missed : (i b : ℕ) → i < sessions_of s → bins_of s ≤ b → own_record s i b ≡ Err (no_bin b)
+  bin_missed i b h k = own_no_bin (sessions_of s) s.bank.sizes s.memory i b I.fit h k
+
   own_is : (i b : ℕ) → i < sessions_of s → b < bins_of s → own_record s i b ≡ Ok (record_of s i)
   own_is i b h k = own_there (sessions_of s) s.bank.sizes s.memory i b I.fit h k (I.ranged i)
 
   word_is : (b : ℕ) (k : b < bins_of s) → lawful_word s b ≡ Ok (I.bin b k).0
   word_is b k = ap (λ w. lawful w b) (said_is I (I.bin b k).2)
+
+-- the stage of one who asks at the bin, once the record is read
+stage_is :
+    (s : State) (i b : ℕ) (g : Stage) → own_record s i b ≡ Ok (record_of s i) → record_of s i ≡ Some (claim b g) →
+    own_stage s i b ≡ Ok g
+stage_is s i b g o e = rw (o, e, eq-eqb b b refl)
+
+-- and of one who does not
+stranger_is :
+    (s : State) (i b : ℕ) → own_record s i b ≡ Ok (record_of s i) → askers s b i ≡ false →
+    own_stage s i b ≡ Err (out_of_turn i)
+stranger_is s i b o n = rw o (go (record_of s i) n)
+  where
+    go : (r : Option (Claim Stage)) → passes (at b) r ≡ false → stage_at (Ok r) i b ≡ Err (out_of_turn i)
+    go None e = refl
+    go (Some c) e = rw e
 
 version_is :
     {s : State} {b i v : ℕ} {w : Word} {rest : List ℕ} {g : Stage} → Leader s b w i rest g v → own_version s i ≡ Ok v
@@ -70,8 +95,8 @@ exchanged (Window p v) s i b = refl
 pub ask_rule : (s : State) (i b : ℕ) → Invariant s → AskRule queuing s i b
 ask_rule s i b I =
     record {
-      no_session = λ h. rw (own_no_session (sessions_of s) s.bank.sizes s.memory i b I.fit h);
-      no_bin = λ h k. rw (own_no_bin (sessions_of s) s.bank.sizes s.memory i b I.fit h k);
+      no_session = λ h. rw (session_missed I i b h);
+      no_bin = λ h k. rw (bin_missed I i b h k);
       asker = λ h k c l e. rw (own_is I i b h k, word_is I b k, (asker_claim s c i e).1);
       granted =
           λ h k n.
@@ -86,7 +111,7 @@ module _ {s : State} {i b : ℕ} (I : Invariant s) where
   seen p a (Some v) e =
       let D = I.bin b a.admitted.bin in
       let M = versioned_leads D.1 v D.2 a.read e in
-      let same = some_same M.1 v (sym M.3.first.holds ∙ e) in
+      let same = same_Some M.1 v (sym M.3.first.holds ∙ e) in
       rw (lt-ltb v versions (subst (λ x. x < versions) same M.3.first.below))
 
   awaited : At s i b Await → (x : Option ℕ) → (node_of s i).next ≡ x → is_ok (await_own x s i b).answer ≡ true
@@ -119,32 +144,21 @@ module _ {s : State} {i b : ℕ} (I : Invariant s) where
 push_by_stage :
     (s : State) (i b : ℕ) (g : Stage) → own_record s i b ≡ Ok (record_of s i) → record_of s i ≡ Some (claim b g) →
     pushes s i b ≡ pushes_at g s i b
-push_by_stage s i b g o e = rw (o, e, eq-eqb b b refl)
-
-push_inside : (s : State) (i b : ℕ) (g : Stage) → entered g ≡ true → (pushes_at g s i b).answer ≡ Err (out_of_turn i)
-push_inside s i b (Link p) e = absurd (false≢true e)
-push_inside s i b (See p) e = absurd (false≢true e)
-push_inside s i b Close e = absurd (false≢true e)
-push_inside s i b Inside e = refl
-push_inside s i b Try e = absurd (false≢true e)
-push_inside s i b Open e = absurd (false≢true e)
-push_inside s i b Await e = absurd (false≢true e)
-push_inside s i b Hand e = absurd (false≢true e)
+push_by_stage s i b g o e = ap (λ r. pushes_own r s i b) (stage_is s i b g o e)
 
 push_stranger :
     (s : State) (i b : ℕ) → own_record s i b ≡ Ok (record_of s i) → askers s b i ≡ false →
     (pushes s i b).answer ≡ Err (out_of_turn i)
-push_stranger s i b o n = go (record_of s i) refl
-  where
-    go : (r : Option (Claim Stage)) → record_of s i ≡ r → (pushes s i b).answer ≡ Err (out_of_turn i)
-    go None e = rw (o, e)
-    go (Some c) e = let q : at b c ≡ false = sym (ap (passes (at b)) e) ∙ n in rw (o, e, q)
+push_stranger s i b o n = ap (λ r. (pushes_own r s i b).answer) (stranger_is s i b o n)
+
+push_inside : (s : State) (i b : ℕ) (g : Stage) → entered g ≡ true → (pushes_at g s i b).answer ≡ Err (out_of_turn i)
+push_inside s i b g e = ap (λ h. (pushes_at h s i b).answer) (only_inside g e)
 
 pub push_rule : (s : State) (i b : ℕ) → Invariant s → PushRule queuing s i b
 push_rule s i b I =
     record {
-      no_session = λ h. rw (own_no_session (sessions_of s) s.bank.sizes s.memory i b I.fit h);
-      no_bin = λ h k. rw (own_no_bin (sessions_of s) s.bank.sizes s.memory i b I.fit h k);
+      no_session = λ h. rw (session_missed I i b h);
+      no_bin = λ h k. rw (bin_missed I i b h k);
       stranger = λ h k n. push_stranger s i b (own_is I i b h k) n;
       inside =
           λ h k e.
@@ -157,7 +171,7 @@ push_rule s i b I =
           let g = c.0.stage in
           let r = c.1 ∙ claim_is c.0 c.2 in
           let a : At s i b g = record { admitted = record { fit = I.fit; session = h; bin = k }; read = r } in
-          let out = untrue (entered g) (λ t. n (entered_inside I k r t)) in
+          let out = false_from_ne_true (entered g) (λ t. n (entered_inside I k r t)) in
           rw (push_by_stage s i b g (own_is I i b h k) r) (push_granted I g a out);
     }
 
@@ -171,26 +185,25 @@ looked {s} I a (Some q) e = rw (lt-ltb q (sessions_of s) (next_there I (leader_a
 pub leave_rule : (s : State) (i b : ℕ) → Invariant s → LeaveRule queuing s i b
 leave_rule s i b I =
     record {
-      no_session = λ h. rw (own_no_session (sessions_of s) s.bank.sizes s.memory i b I.fit h);
-      no_bin = λ h k. rw (own_no_bin (sessions_of s) s.bank.sizes s.memory i b I.fit h k);
-      not_inside = λ h k n. not_inside k (own_is I i b h k) n (record_of s i) refl;
+      no_session = λ h. rw (session_missed I i b h);
+      no_bin = λ h k. rw (bin_missed I i b h k);
+      not_inside = λ h k n. not_inside k (own_is I i b h k) n (askers s b i) refl;
       granted =
           λ h k e.
           let c = inside_claim entered s b i e in
           let r = c.1 ∙ claim_is c.0 c.2 ∙ ap (λ g. Some (claim b g)) (only_inside c.0.stage c.3) in
           let a : At s i b Inside = record { admitted = record { fit = I.fit; session = h; bin = k }; read = r } in
-          rw (own_is I i b h k, r, eq-eqb b b refl) (looked I a (node_of s i).next refl);
+          rw (stage_is s i b Inside (own_is I i b h k) r) (looked I a (node_of s i).next refl);
     }
   where
     not_inside :
-        b < bins_of s → own_record s i b ≡ Ok (record_of s i) → (inside s b ≢ Some i) →
-        (r : Option (Claim Stage)) → record_of s i ≡ r → (leaves s i b).answer ≡ Err (out_of_turn i)
-    not_inside k o n None e = rw (o, e)
-    not_inside k o n (Some c) e =
-        rw (o, e, untrue (at_stage entered b c) outside)
-      where
-        outside : at_stage entered b c ≡ true → ⊥
-        outside p = let y = at_stage_parts entered b c p in n (entered_inside I k (e ∙ claim_is c y.0) y.1)
+        b < bins_of s → own_record s i b ≡ Ok (record_of s i) → (inside s b ≢ Some i) → (t : Bool) → askers s b i ≡ t →
+        (leaves s i b).answer ≡ Err (out_of_turn i)
+    not_inside k o n false e = rw (stranger_is s i b o e)
+    not_inside k o n true e =
+        let c = asker_claim s b i e in
+        let r = c.1 ∙ claim_is c.0 c.2 in
+        rw (stage_is s i b c.0.stage o r, false_from_ne_true (entered c.0.stage) (λ p. n (entered_inside I k r p)))
 
 pub peek_rule : (s : State) (b : ℕ) → Invariant s → PeekRule queuing s b
 peek_rule s b I =

@@ -1,5 +1,5 @@
 -- A state of the queuing kind, and what a call reads of it.
-use Rattle.std.specs.Prelude.{ℕ, Bool, true, false, cond, Some, None, Ok, Err, Option, Result, nat_lt}
+use Rattle.std.specs.Prelude.{ℕ, ◌<◌, ◌≤◌, Bool, true, false, if◌then◌else◌, length, Some, None, Ok, Err, Option, Result, nat_lt}
 use Rattle.bank.specs.Claims.{claim}
 use Rattle.bank.specs.Locks.{Locks, word_at, node_of, with_record, with_node}
 use Rattle.bank.specs.Memory as memory
@@ -22,6 +22,12 @@ sessions_of s = s.bank.sizes.sessions
 
 abbrev pub bins_of : State → ℕ
 bins_of s = s.bank.sizes.bins
+
+-- session i is there, and the memory has a record and a node for each session
+pub record HasSession (s : State) (i : ℕ) : Type 0 where
+  pub session : i < sessions_of s
+  pub records : sessions_of s ≤ length s.memory.records
+  pub nodes : sessions_of s ≤ length s.memory.nodes
 
 -- a node for each session
 abbrev pub nodes_for : Sizes → ℕ
@@ -81,6 +87,10 @@ with_version m v = record { next = m.next; version = Some v }
 abbrev pub own_record : State → ℕ → ℕ → Result (Option (Claim Stage)) Fault
 own_record s i b = memory.own_record (nodes_for s.bank.sizes) s.bank.sizes s.memory i b
 
+-- the stage of its claim at the bin, past these refusals, or 10 at the session
+abbrev pub own_stage : State → ℕ → ℕ → Result Stage Fault
+own_stage s i b = memory.own_stage (nodes_for s.bank.sizes) s.bank.sizes s.memory i b
+
 -- what a bin's lock word says, or 9 at the bin
 abbrev pub lawful : Option Word → ℕ → Result Word Fault
 lawful None b = Err (bad_word b)
@@ -91,7 +101,7 @@ lawful_word s b = lawful (unpacked (word_at s b) (sessions_of s)) b
 
 -- a number below its bound, or 9 at the session that it was read from
 abbrev pub below : ℕ → ℕ → ℕ → Result ℕ Fault
-below bound i x = cond (nat_lt x bound) (Ok x) (Err (bad_record i))
+below bound i x = if nat_lt x bound then Ok x else Err (bad_record i)
 
 -- the same of a number that has to be there
 abbrev pub needed_below : ℕ → ℕ → Option ℕ → Result ℕ Fault

@@ -19,7 +19,7 @@ use Rattle.queuing.specs.Actions.{entered_at_once, lined_up, linked, freed, hand
 use Rattle.queuing.specs.State.{State, bins_of, with_next, with_version}
 use Rattle.queuing.specs.Word.{packed, next_version}
 use Rattle.queuing.specs.Changes.{set_changed, altered, Change, own_record, same_elsewhere, invariant_after}
-use Rattle.queuing.specs.Invariant.{Bin, Invariant, lengths, member_there}
+use Rattle.queuing.specs.Invariant.{Bin, Invariant, lengths, own_place, member_there}
 use Rattle.queuing.specs.Kind.{queuing}
 use Rattle.queuing.specs.Lines.{In, last}
 use Rattle.queuing.specs.Meanings.{Leader}
@@ -100,9 +100,6 @@ still_idle rs i x j h e =
 
 -- THE FIRST GOES ON, with its node as it was
 module _ {s : State} {i b : ℕ} {g : Stage} (I : Invariant s) (a : At s i b g) where
-  there : (i < length s.memory.records) × (i < length s.memory.nodes)
-  there = let z = lengths I in let h = a.admitted.session in (omega arith, omega arith)
-
   staged_change : (h : Stage) {ws : List ℕ} {x : ℕ} → Worded s b ws x → Change s i b ws (Some (claim b h)) s.memory.nodes
   staged_change h W =
       record {
@@ -114,7 +111,7 @@ module _ {s : State} {i b : ℕ} {g : Stage} (I : Invariant s) (a : At s i b g) 
         old = asks_only_here a;
         new = new_claim b h;
         range = lt-ltb b (bins_of s) a.admitted.bin;
-        idle = λ j e. I.idle j (still_idle s.memory.records i (claim b h) j there.0 e).1;
+        idle = λ j e. I.idle j (still_idle s.memory.records i (claim b h) j (own_place I a.admitted.session).0 e).1;
       }
 
   pub advances :
@@ -131,16 +128,13 @@ module _ {s : State} {i b : ℕ} (I : Invariant s) (o : Owns s i b None) where
   asks_nowhere : (c : ℕ) → askers s c i ≡ false
   asks_nowhere c = ap (passes (at c)) o.read
 
-  own_there : (i < length s.memory.records) × (i < length s.memory.nodes)
-  own_there = let z = lengths I in let h = o.admitted.session in (omega arith, omega arith)
-
   pub exchanges_free :
       {v : ℕ} → Bin s b (Free v) [] →
       Step s (entered_at_once s i b v) i b (Some (claim b Inside))
       × Leader (entered_at_once s i b v) b (Held i) i [] Inside (next_version v)
   exchanges_free {v} B =
       led (Held i) [] Inside I C W.at
-      (exchange_free B.stands (own_record I C) empty (set_changed s.memory.nodes i m empty_node own_there.1))
+      (exchange_free B.stands (own_record I C) empty (set_changed s.memory.nodes i m empty_node (own_place I o.admitted.session).1))
     where
       m : Node
       m = with_version (node_of s i) (next_version v)
@@ -167,7 +161,7 @@ module _ {s : State} {i b : ℕ} (I : Invariant s) (o : Owns s i b None) where
             range = lt-ltb b (bins_of s) o.admitted.bin;
             idle =
                 λ j e.
-                let k = still_idle s.memory.records i (claim b Inside) j own_there.0 e in
+                let k = still_idle s.memory.records i (claim b Inside) j (own_place I o.admitted.session).0 e in
                 get_or-set_other s.memory.nodes i j m empty_node k.0 ∙ I.idle j k.1;
           }
 
@@ -194,7 +188,7 @@ module _ {s : State} {i b : ℕ} (I : Invariant s) (o : Owns s i b None) where
             new = new_claim b (Link (last f rest));
             range = lt-ltb b (bins_of s) o.admitted.bin;
             idle =
-                λ j e. I.idle j (still_idle s.memory.records i (claim b (Link (last f rest))) j own_there.0 e).1;
+                λ j e. I.idle j (still_idle s.memory.records i (claim b (Link (last f rest))) j (own_place I o.admitted.session).0 e).1;
           }
 
 -- 2. LINK
@@ -226,7 +220,7 @@ module _ {s : State} {i b p : ℕ} (I : Invariant s) (a : At s i b (Link p)) whe
       asks = in_asks L.bin.stands p before
 
       node_there : p < length s.memory.nodes
-      node_there = let z = lengths I in let h = member_there I L.bin p before in omega arith
+      node_there = (own_place I (member_there I L.bin p before)).1
 
       C : Change s i b s.memory.words (Some (claim b (See p))) (slice_set s.memory.nodes p m)
       C =
@@ -241,7 +235,7 @@ module _ {s : State} {i b p : ℕ} (I : Invariant s) (a : At s i b (Link p)) whe
             range = lt-ltb b (bins_of s) a.admitted.bin;
             idle =
                 λ j e.
-                let k = (still_idle s.memory.records i (claim b (See p)) j (there I a).0 e).1 in
+                let k = (still_idle s.memory.records i (claim b (See p)) j (own_place I a.admitted.session).0 e).1 in
                 get_or-set_other s.memory.nodes p j m empty_node (asker_claims s b p asks j k) ∙ I.idle j k;
           }
 
@@ -292,7 +286,7 @@ module _ {s : State} {i b : ℕ} {g : Stage} (I : Invariant s) (a : At s i b g) 
           get_or-set_other s.memory.nodes i j empty_node empty_node
           (asker_apart s b i (asks_here a) c j n k))
           (λ j n k. get_or-set_other s.memory.nodes i j empty_node empty_node n)
-          (get_or-set_same s.memory.nodes i empty_node empty_node (there I a).1)
+          (get_or-set_same s.memory.nodes i empty_node empty_node (own_place I a.admitted.session).1)
 
       B : Bin (freed s i b v) b (Free v) []
       B = record { stored = W.at; stands = freed_keeps L.bin.stands L.first.below (own_record I C) }
@@ -318,10 +312,10 @@ module _ {s : State} {i b : ℕ} (I : Invariant s) (a : At s i b Hand) where
       asks = in_asks L.bin.stands q (inr (inl refl))
 
       next_there : q < length s.memory.nodes
-      next_there = let z = lengths I in let h = member_there I L.bin q (inr (inl refl)) in omega arith
+      next_there = (own_place I (member_there I L.bin q (inr (inl refl)))).1
 
       own_still_there : i < length (slice_set s.memory.nodes q m)
-      own_still_there = rw length-set (there I a).1
+      own_still_there = rw length-set (own_place I a.admitted.session).1
 
       -- a node that is neither the own one nor the next one
       node_stays : (j : ℕ) → (j ≢ i) → (j ≢ q) → slice_index_or ns j empty_node ≡ node_of s j

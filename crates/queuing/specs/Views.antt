@@ -1,9 +1,8 @@
 -- The ways that an ask, a push and a leave may go, at any state.
 use Rattle.std.specs.Prelude.{◌≡◌, ℕ, ◌<◌, true, false, Some, None, Ok, Err, Option, Result, nat_lt, refl}
-use Rattle.std.proofs.Common.{ap, subst, ◌∙◌}
-use Rattle.std.proofs.lemmas.Bool.{eqb-true, ltb-true, cond_both, false≢true}
-use Rattle.bank.specs.Claims.{at, at_stage, claim}
-use Rattle.bank.specs.Locks.{node_of, record_of}
+use Rattle.std.proofs.Common.{subst}
+use Rattle.std.proofs.lemmas.Bool.{ltb-true, cond_both}
+use Rattle.bank.specs.Locks.{node_of}
 use Rattle.bank.specs.Outcome.{Outcome, granted, refused}
 use Rattle.bank.specs.Refusals.{bad_record, bad_word, out_of_turn}
 use Rattle.bank.specs.declared.answers.AskAnswer.{AskAnswer}
@@ -15,7 +14,7 @@ use Rattle.bank.specs.declared.answers.PushAnswer.TheVariants.{Waits, Moved, In,
 use Rattle.bank.specs.declared.memory.Claim.{Claim}
 use Rattle.bank.specs.declared.refusals.Fault.{Fault}
 use Rattle.bank.proofs.Admission.{Admitted, Own, owned}
-use Rattle.bank.proofs.Claims.{at_stage_parts}
+use Rattle.bank.proofs.Admission as admission
 use Rattle.queuing.specs.declared.Stage.{Stage}
 use Rattle.queuing.specs.declared.Stage.TheVariants.{Link, See, Close, Inside, Try, Open, Await, Hand}
 use Rattle.queuing.specs.declared.word.Word.{Word}
@@ -23,22 +22,24 @@ use Rattle.queuing.specs.declared.word.Word.TheVariants.{Free, Held, Window}
 use Rattle.queuing.specs.Actions.{entered_at_once, lined_up, exchange, linked, link_to, see_own, see_version, shut, close_word, look_own, look_next, freed, free_with, try_word, window_opened, open_with, open_word, await_own, await_next, handed, hand_with, hand_to}
 use Rattle.queuing.specs.Calls.{asks_word, asks_own, asks, pushes_at, pushes_own, pushes, leaves_own, leaves}
 use Rattle.queuing.specs.Meaning.{said}
-use Rattle.queuing.specs.State.{State, sessions_of, staged, entered, own_record, lawful, lawful_word, below, needed_below, own_version}
+use Rattle.queuing.specs.State.{State, sessions_of, staged, entered, own_record, own_stage, lawful, lawful_word, below, needed_below, own_version}
 use Rattle.queuing.specs.Word.{held_by, versions}
+use Rattle.queuing.specs.Stages.{only_inside}
 
 -- a call past the refusals 1, 2 and 3 whose own record r is in range
 abbrev pub Owns : State → ℕ → ℕ → Option (Claim Stage) → Type 0
 Owns s i b r = Own (sessions_of s) s.bank.sizes s.memory i b r
 
 -- a call past these refusals of a session at stage g at the bin
-pub record At (s : State) (i b : ℕ) (g : Stage) : Type 0 where
-  pub admitted : Admitted (sessions_of s) s.bank.sizes s.memory i b
-  pub read : record_of s i ≡ Some (claim b g)
-
-at_stage_of : {s : State} {i b : ℕ} {c : Claim Stage} → Owns s i b (Some c) → c.bin ≡ b → At s i b c.stage
-at_stage_of {c = c} o e = record { admitted = o.admitted; read = o.read ∙ ap (λ x. Some (claim x c.stage)) e }
+abbrev pub At : State → ℕ → ℕ → Stage → Type 0
+At s i b g = admission.At (sessions_of s) s.bank.sizes s.memory i b g
 
 -- WHAT IS READ, or the call is refused
+stage_cases :
+    (s : State) (i b : ℕ) (P : Result Stage Fault → Type 0) → ((g : Stage) → At s i b g → P (Ok g)) →
+    ((f : Fault) → P (Err f)) → P (own_stage s i b)
+stage_cases s = admission.stage_cases (sessions_of s) s.bank.sizes s.memory
+
 below_cases :
     (bound i x : ℕ) (P : Result ℕ Fault → Type 0) → (x < bound → P (Ok x)) → ((f : Fault) → P (Err f)) →
     P (below bound i x)
@@ -118,7 +119,7 @@ pub data PushView (s : State) (i b : ℕ) : Outcome PushAnswer State → Type 0 
       PushView s i b (granted (handed s i q v) Out)
 
 pub push_view : (s : State) (i b : ℕ) → PushView s i b (pushes s i b)
-push_view s i b = go (own_record s i b) refl
+push_view s i b = stage_cases s i b (λ x. PushView s i b (pushes_own x s i b)) stages push_refused
   where
     see_view :
         (p : ℕ) → At s i b (See p) → (x : Option ℕ) → (node_of s i).version ≡ x → PushView s i b (see_own x s i b)
@@ -190,19 +191,6 @@ push_view s i b = go (own_record s i b) refl
         (λ q e l. hand_view q a e)
         push_refused
 
-    go : (a : Result (Option (Claim Stage)) Fault) → own_record s i b ≡ a → PushView s i b (pushes_own a s i b)
-    go (Err f) e = push_refused f
-    go (Ok None) e = push_refused (out_of_turn i)
-    go (Ok (Some c)) e =
-        let o = owned (sessions_of s) s.bank.sizes s.memory i b (Some c) e in
-        cond_both
-        (at b c)
-        _
-        _
-        (PushView s i b)
-        (λ q. stages c.stage (at_stage_of o (eqb-true c.bin b q)))
-        (λ q. push_refused (out_of_turn i))
-
 -- LEAVE
 pub data LeaveView (s : State) (i b : ℕ) : Outcome LeaveAnswer State → Type 0 where
   leave_refused : (f : Fault) → LeaveView s i b (refused s f)
@@ -211,35 +199,20 @@ pub data LeaveView (s : State) (i b : ℕ) : Outcome LeaveAnswer State → Type 
       (q : ℕ) → At s i b Inside → (node_of s i).next ≡ Some q →
       LeaveView s i b (granted (staged s i b Open) StillLeaving)
 
-pub only_inside : (g : Stage) → entered g ≡ true → g ≡ Inside
-only_inside (Link p) e = absurd (false≢true e)
-only_inside (See p) e = absurd (false≢true e)
-only_inside Close e = absurd (false≢true e)
-only_inside Inside e = refl
-only_inside Try e = absurd (false≢true e)
-only_inside Open e = absurd (false≢true e)
-only_inside Await e = absurd (false≢true e)
-only_inside Hand e = absurd (false≢true e)
-
 pub leave_view : (s : State) (i b : ℕ) → LeaveView s i b (leaves s i b)
-leave_view s i b = go (own_record s i b) refl
+leave_view s i b = stage_cases s i b (λ x. LeaveView s i b (leaves_own x s i b)) stages leave_refused
   where
     look_view : At s i b Inside → (x : Option ℕ) → (node_of s i).next ≡ x → LeaveView s i b (look_own x s i b)
     look_view a None e = looks_alone a e
     look_view a (Some q) e =
         below_cases (sessions_of s) i q (λ x. LeaveView s i b (look_next x s i b)) (λ l. looks_back q a e) leave_refused
 
-    go : (a : Result (Option (Claim Stage)) Fault) → own_record s i b ≡ a → LeaveView s i b (leaves_own a s i b)
-    go (Err f) e = leave_refused f
-    go (Ok None) e = leave_refused (out_of_turn i)
-    go (Ok (Some c)) e =
-        let o = owned (sessions_of s) s.bank.sizes s.memory i b (Some c) e in
+    stages : (g : Stage) → At s i b g → LeaveView s i b (leaves_own (Ok g) s i b)
+    stages g a =
         cond_both
-        (at_stage entered b c)
+        (entered g)
         _
         _
         (LeaveView s i b)
-        (λ q.
-        let p = at_stage_parts entered b c q in
-        look_view (subst (At s i b) (only_inside c.stage p.1) (at_stage_of o p.0)) (node_of s i).next refl)
+        (λ q. look_view (subst (At s i b) (only_inside g q) a) (node_of s i).next refl)
         (λ q. leave_refused (out_of_turn i))

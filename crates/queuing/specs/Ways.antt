@@ -2,6 +2,7 @@
 use Rattle.std.specs.Prelude.{◌≡◌, ℕ, ◌+◌, ◌-◌, ◌%◌, ◌<◌, ◌≤◌, true, false, cond, List, [], ◌∷◌, ◌++◌, Some, None, ◌≢◌, slice_set, refl}
 use Rattle.std.proofs.Common.{sym, ap, subst, ◌∙◌, arith}
 use Rattle.std.proofs.lemmas.Bool.{true≢false, false≢true, eqb-true, eq-eqb}
+use Rattle.std.proofs.lemmas.Option.{same_Some}
 use Rattle.bank.specs.Claims.{claim}
 use Rattle.bank.specs.Locks.{word_at, record_of, node_of}
 use Rattle.bank.specs.Outcome.{Outcome, granted, refused}
@@ -12,7 +13,7 @@ use Rattle.bank.specs.declared.answers.LeaveAnswer.TheVariants.{Moved as StillLe
 use Rattle.bank.specs.declared.answers.PushAnswer.{PushAnswer}
 use Rattle.bank.specs.declared.answers.PushAnswer.TheVariants.{Waits, Moved, In, Out}
 use Rattle.bank.specs.declared.refusals.Fault.{Fault}
-use Rattle.bank.proofs.Claims.{some_same, some_none}
+use Rattle.bank.proofs.Claims.{some_none}
 use Rattle.queuing.specs.declared.Stage.{Stage}
 use Rattle.queuing.specs.declared.Stage.TheVariants.{Link, See, Close, Inside, Try, Open, Await, Hand}
 use Rattle.queuing.specs.declared.word.Word.{Word}
@@ -111,15 +112,12 @@ written :
 written {s} {b} x w I h e =
     subst (Worded s b (slice_set s.memory.words b x)) e (word_set x I h)
 
-see_close : (w : Word) (p v m : ℕ) → Says w (See p) v m → Says w Close v m
-see_close (Free a) p v m h = h
-see_close (Held n) p v m h = h
-see_close (Window n a) p v m h = h
-
-await_hand : (w : Word) (v m : ℕ) → Says w Await v m → Says w Hand v m
-await_hand (Free a) v m h = h
-await_hand (Held n) v m h = h
-await_hand (Window n a) v m h = h
+-- another stage of the first that tells the same
+says_at :
+    (w : Word) (g h : Stage) (v m : ℕ) → age_at h v ≡ age_at g v → may_be_open h ≡ may_be_open g → Says w g v m → Says w h v m
+says_at (Free a) g h v m ea eo k = k
+says_at (Held n) g h v m ea eo k = k
+says_at (Window n a) g h v m ea eo k = (k.0, k.1 ∙ sym ea, eo ∙ k.2)
 
 closed_says : (w : Word) (v m : ℕ) → Says w Close v m → closed (packed w) ≡ packed (Held m)
 closed_says (Free a) v m h = absurd h
@@ -151,7 +149,7 @@ next_second {R} {N} {b} {p} {q} (chain_on {q = r} {qs} d c) e = (qs, ap (λ x. x
   where
     is : Behind R N b p r → r ≡ q
     is (to_link x v n) = some_none (N p).next q n e
-    is (LinkedTo x v n) = some_same r q (sym n ∙ e)
+    is (LinkedTo x v n) = same_Some r q (sym n ∙ e)
 
 back : (v : ℕ) → v < versions → (next_version v + (versions - 1)) % versions ≡ v
 back v l = omega arith
@@ -194,7 +192,7 @@ module _ {s : State} {i b : ℕ} (I : Invariant s) where
       let w = D.0 in
       let M = versioned_leads D.1 v D.2 a.read e in
       let L = M.3 in
-      let says = see_close w p M.1 (last i M.0) L.first.says in
+      let says = says_at w (See p) Close M.1 (last i M.0) refl refl L.first.says in
       same_leader (See p) Close (See p) Close I a.read L (advances I a Close w L (stored_word L.bin) tt says) refl refl
 
   closes_way : At s i b Close → Enters s (shut s i b) i b Close
@@ -223,7 +221,7 @@ module _ {s : State} {i b : ℕ} (I : Invariant s) where
       let M = holder_at a refl refl in
       let rest = M.0 in
       let L = M.2 in
-      let same : Held (last i rest) ≡ w = some_same (Held (last i rest)) w (sym (said_is I L.bin) ∙ e) in
+      let same : Held (last i rest) ≡ w = same_Some (Held (last i rest)) w (sym (said_is I L.bin) ∙ e) in
       let other : last i rest ≡ i → ⊥ =
       λ q. true≢false (sym (eq-eqb (last i rest) i q) ∙ ap (λ x. held_by x i) same ∙ n) in
       let k = advances I a Open (Held (last i rest)) L (stored_word L.bin) (second_from i rest other) refl in
@@ -235,8 +233,8 @@ module _ {s : State} {i b : ℕ} (I : Invariant s) where
   frees_way {w} {v} a e h n =
       let M = leader_at a refl in
       let own : M.0 ≡ Held i =
-      some_same M.0 w (sym (said_is I M.3.bin) ∙ e) ∙ held_by_own w i h in
-      let same : M.2 ≡ v = some_same M.2 v (sym M.3.first.holds ∙ n) in
+      same_Some M.0 w (sym (said_is I M.3.bin) ∙ e) ∙ held_by_own w i h in
+      let same : M.2 ≡ v = same_Some M.2 v (sym M.3.first.holds ∙ n) in
       let K : Leader s b (Held i) i M.1 Try v =
       subst (λ x. Leader s b (Held i) i M.1 Try x) same (subst (λ x. Leader s b x i M.1 Try M.2) own M.3) in
       let L : Leader s b (Held i) i [] Try v =
@@ -257,7 +255,7 @@ module _ {s : State} {i b : ℕ} (I : Invariant s) where
       let M = holder_at a refl refl in
       let rest = M.0 in
       let m = last i rest in
-      let same : M.1 ≡ v = some_same M.1 v (sym M.2.first.holds ∙ e) in
+      let same : M.1 ≡ v = same_Some M.1 v (sym M.2.first.holds ∙ e) in
       let L : Leader s b (Held m) i rest Open v = subst (λ x. Leader s b (Held m) i rest Open x) same M.2 in
       let x = ap (λ y. opened y v) L.bin.stored ∙ opened_held m v L.first.below in
       let W = written (opened (word_at s b) v) (Window m v) I a.admitted.bin x in
@@ -272,7 +270,7 @@ module _ {s : State} {i b : ℕ} (I : Invariant s) where
       let rest = M.1 in
       let L = M.3 in
       let n = next_second L.first.chain e in
-      let says = await_hand w M.2 (last i rest) L.first.says in
+      let says = says_at w Await Hand M.2 (last i rest) refl refl L.first.says in
       let k = advances I a Hand w L (stored_word L.bin) (q, n.0, n.1, e) says in
       same_leader Await Hand Await Hand I a.read L k refl refl
 
@@ -284,7 +282,7 @@ module _ {s : State} {i b : ℕ} (I : Invariant s) where
       let w = M.0 in
       let n = next_second M.3.first.chain e in
       let qs = n.0 in
-      let same : M.2 ≡ v = some_same M.2 v (sym M.3.first.holds ∙ f) in
+      let same : M.2 ≡ v = same_Some M.2 v (sym M.3.first.holds ∙ f) in
       let L : Leader s b w i (q ∷ qs) Hand v =
       subst (λ x. Leader s b w i (q ∷ qs) Hand x) same (subst (λ x. Leader s b w i x Hand M.2) n.1 M.3) in
       let k = hands_on I a L e in
@@ -326,7 +324,7 @@ module _ {s : State} {i b : ℕ} (I : Invariant s) where
       D = I.bin b o.admitted.bin
 
       free : Bin s b (Free v) D.1
-      free = subst (λ w. Bin s b w D.1) (some_same D.0 (Free v) (sym (said_is I D.2) ∙ e)) D.2
+      free = subst (λ w. Bin s b w D.1) (same_Some D.0 (Free v) (sym (said_is I D.2) ∙ e)) D.2
 
       go : (l : List ℕ) → Bin s b (Free v) l → JoinsFirst s (entered_at_once s i b v) i b
       go (f ∷ rest) B = absurd B.stands.queue.2.says
@@ -351,7 +349,7 @@ module _ {s : State} {i b : ℕ} (I : Invariant s) where
       D = I.bin b o.admitted.bin
 
       same : Bin s b w D.1
-      same = subst (λ x. Bin s b x D.1) (some_same D.0 w (sym (said_is I D.2) ∙ e)) D.2
+      same = subst (λ x. Bin s b x D.1) (same_Some D.0 w (sym (said_is I D.2) ∙ e)) D.2
 
       rests_not : (x : Word) → names x ≡ Some p → Rests x → ⊥
       rests_not (Free a) q h = some_none (names (Free a)) p refl q
@@ -360,8 +358,8 @@ module _ {s : State} {i b : ℕ} (I : Invariant s) where
 
       names_last : (x : Word) (g : Stage) (v m : ℕ) → names x ≡ Some p → Says x g v m → m ≡ p
       names_last (Free a) g v m q h = absurd h
-      names_last (Held r) g v m q h = sym h ∙ some_same r p q
-      names_last (Window r a) g v m q h = sym h.0 ∙ some_same r p q
+      names_last (Held r) g v m q h = sym h ∙ same_Some r p q
+      names_last (Window r a) g v m q h = sym h.0 ∙ same_Some r p q
 
       go : (l : List ℕ) → Bin s b w l → JoinsLast s (lined_up s i b p) i b
       go [] B = absurd (rests_not w n B.stands.queue)

@@ -1,5 +1,5 @@
 -- The lock word: bit 63 says locked, bit 62 says window, bits 61 to 52 are a node number, bits 51 to 0 are a version.
-use Rattle.std.specs.Prelude.{ℕ, ◌+◌, ◌*◌, ◌/◌, ◌%◌, ◌^◌, ◌<◌, Bool, true, false, cond, ◌&&◌, Some, None, Option, ◌==◌, nat_le, nat_lt}
+use Rattle.std.specs.Prelude.{ℕ, ◌+◌, ◌*◌, ◌/◌, ◌%◌, ◌^◌, ◌<◌, Bool, true, false, if◌then◌else◌, ◌&&◌, Some, None, Option, ◌==◌, nat_le, nat_lt}
 use Rattle.queuing.specs.declared.word.Word.{Word}
 use Rattle.queuing.specs.declared.word.Word.TheVariants.{Free, Held, Window}
 
@@ -31,16 +31,7 @@ packed (Window i v) = 2 ^ 63 + 2 ^ 62 + i % 1024 * 2 ^ 52 + v % 2 ^ 52
 -- free below 2^52; else, at a node that there is, window with both high bits, held with the higher one and no version
 abbrev pub unpacked : ℕ → ℕ → Option Word
 unpacked w n =
-    cond
-    (nat_lt w (2 ^ 52))
-    (Some (Free (version_in w)))
-    (cond
-    (nat_le n (node_in w))
-    None
-    (cond
-    (w / 2 ^ 62 == 3)
-    (Some (Window (node_in w) (version_in w)))
-    (cond (w / 2 ^ 62 == 2 && version_in w == 0) (Some (Held (node_in w))) None)))
+    if nat_lt w (2 ^ 52) then Some (Free (version_in w)) else if nat_le n (node_in w) then None else if w / 2 ^ 62 == 3 then Some (Window (node_in w) (version_in w)) else if w / 2 ^ 62 == 2 && version_in w == 0 then Some (Held (node_in w)) else None
 
 -- the word without its window and its version
 abbrev pub closed : ℕ → ℕ

@@ -1,10 +1,11 @@
-// Those ahead of a session: from node to remembered node, back to the one that has a version.
-ghost use Rattle.std.specs.Prelude.{◌≡◌, ℕ, ◌<◌, ◌≤◌, Some, Ok, vec_len};
+//! Those ahead of a session: from node to remembered node, back to the one that has a version.
+ghost use Rattle.std.specs.Prelude.{◌≡◌, ℕ, ◌<◌, Some, Ok};
 ghost use Rattle.bank.specs.Locks.{locks};
 ghost use Rattle.queuing.specs.Calls as calls;
-ghost use Rattle.queuing.specs.State.{remembered_by};
+ghost use Rattle.queuing.specs.State.{HasSession, remembered_by};
 
-use super::actions::version_below;
+use super::actions::below;
+use super::word::VERSIONS;
 use super::{Memory, Queuing, Stage};
 use bank::{Claim, Fault};
 
@@ -21,27 +22,26 @@ fn remembered(own: Option<Claim<Stage>>) -> Option<u16>
 impl Queuing {
     // The session right before this one in its line; none for the first, which has a version.
     fn before(&self, memory: &Memory, session: usize) -> Result<Option<usize>, Fault>
-        requires { (session < vec_len memory.now.records) × (session < vec_len memory.now.nodes) }
+        requires { HasSession (locks self.now memory.now) session }
         ensures value { result ≡ calls.behind (locks self.now memory.now) session }
         ensures there { (p : ℕ) → result ≡ Ok (Some p) → p < self.now.sizes.sessions }
     {
         if let Some(version) = memory.nodes[session].version {
-            version_below(session, version)?;
+            below(VERSIONS, session, version)?;
             return Ok(None);
         }
-        let Some(before) = remembered(memory.records[session]) else {
-            return Err(Fault::bad_record(session));
-        };
-        Ok(Some(self.node_below(session, before)?))
+        let before = remembered(memory.records[session]).ok_or(Fault::bad_record(session))?;
+        Ok(Some(below(self.sizes.sessions, session, before.into())?))
     }
 
-    // How many stand before a session in its line; refused by 9 where they are as many as there are sessions.
+    /// How many stand before a session in its line; refused by 9 where they are as many as there are sessions.
+    #[tactic(auto, using(crate::proofs::Turns::turn))]
     pub(crate) fn count_ahead(
         &self,
         memory: &Memory,
         session: usize,
     ) -> Result<Option<usize>, Fault>
-        requires { (session < self.now.sizes.sessions) × ((self.now.sizes.sessions ≤ vec_len memory.now.records) × (self.now.sizes.sessions ≤ vec_len memory.now.nodes)) }
+        requires { HasSession (locks self.now memory.now) session }
         ensures { result ≡ calls.counted self.now.sizes.sessions (locks self.now memory.now) session session 0 }
     {
         let mut at = session;

@@ -1,4 +1,4 @@
-// The queuing kind: sessions line up by exchanging the lock word and hand their turns on through their nodes.
+//! The queuing kind: sessions line up by exchanging the lock word and hand their turns on through their nodes.
 #![tactic(auto)]
 
 ghost use Rattle.std.specs.Prelude.{true};
@@ -9,6 +9,7 @@ ghost use Rattle.queuing.specs.Meaning as meaning;
 ghost use Rattle.queuing.specs.Calls as calls;
 ghost use Rattle.queuing.specs.Lawful.{queuing_lawful};
 
+use actions::Actor;
 use bank::{AskAnswer, Bank, Claim, Fault, LeaveAnswer, LockMemory, PushAnswer, Sizes};
 use word::VERSIONS;
 
@@ -18,9 +19,9 @@ mod word;
 
 pub use word::Word;
 
-// The action that a session does next at its bin. Before its entry it may remember the node before its own; session
-// and node have the same number.
-#[derive(Clone, Copy)]
+/// The action that a session does next at its bin. Before its entry it may remember the node before its own; session
+/// and node have the same number.
+#[derive(Clone, Copy, PartialEq, Eq, Debug)]
 pub enum Stage {
     Link(u16),
     See(u16),
@@ -35,8 +36,8 @@ pub enum Stage {
 // What the kind is lent: lock words, the sessions' claims, and a node for each session.
 type Memory = LockMemory<Option<Claim<Stage>>>;
 
-// A bank of queuing locks: the sizes that layout gave it.
-#[derive(Clone, Copy, Default)]
+/// A bank of queuing locks: the sizes that layout gave it.
+#[derive(Clone, Copy, PartialEq, Eq, Debug, Default)]
 pub struct Queuing {
     sizes: Sizes,
 }
@@ -46,9 +47,7 @@ impl Bank for Queuing {
 
     ghost extent = { λ k. k.sizes };
 
-    ghost nodesfor = { nodes_for };
-
-    ghost effective = { λ k. k };
+    ghost nodes_for = { nodes_for };
 
     ghost modulus = { words.versions };
 
@@ -64,9 +63,9 @@ impl Bank for Queuing {
 
     ghost mark = { meaning.mark };
 
-    ghost calmof = { words.calm_of };
+    ghost calm_of = { words.calm_of };
 
-    ghost ageof = { words.age_of };
+    ghost age_of = { words.age_of };
 
     ghost fair = { true };
 
@@ -74,9 +73,9 @@ impl Bank for Queuing {
 
     ghost needed = { meaning.needed };
 
-    ghost entrypushes = { 3 };
+    ghost entry_pushes = { 3 };
 
-    ghost exitpushes = { 4 };
+    ghost exit_pushes = { 4 };
 
     ghost lays = { calls.lays };
 
@@ -101,23 +100,16 @@ impl Bank for Queuing {
     }
 
     fn layout(&mut self, memory: &mut Memory, sizes: Sizes, start: u64) -> Result<(), Fault> {
-        if !memory.fits(sizes, sizes.sessions) || start >= VERSIONS {
-            return Err(Fault::bad_size());
-        }
-        self.sizes = sizes;
-        memory.words.fill(Word::Free(start).pack());
-        memory.records.fill(None);
-        memory.nodes.fill(actions::EMPTY);
+        let bank = Queuing { sizes };
+        memory.admit_layout(bank.capacity(), start, VERSIONS)?;
+        *self = bank;
+        memory.reset(Word::Free(start).pack());
         Ok(())
     }
 
     fn ask(&mut self, memory: &mut Memory, session: usize, bin: usize) -> Result<AskAnswer, Fault> {
-        let own = memory.own_record(self.sizes, self.sizes.sessions, session, bin)?;
-        let word = self.lawful_word(memory, bin)?;
-        if own.is_some() {
-            return Err(Fault::out_of_turn(session));
-        }
-        Ok(self.exchange(memory, session, bin, word))
+        let own = memory.own_record(self.capacity(), session, bin)?;
+        Actor::new(*self, memory, session, bin).ask(own)
     }
 
     fn push(
@@ -126,23 +118,8 @@ impl Bank for Queuing {
         session: usize,
         bin: usize,
     ) -> Result<PushAnswer, Fault> {
-        let own = memory.own_record(self.sizes, self.sizes.sessions, session, bin)?;
-        let Some(claim) = own else {
-            return Err(Fault::out_of_turn(session));
-        };
-        if claim.bin != bin {
-            return Err(Fault::out_of_turn(session));
-        }
-        match claim.stage {
-            Stage::Link(before) => self.link(memory, session, bin, before),
-            Stage::See(_) => self.see(memory, session, bin),
-            Stage::Close => self.close(memory, session, bin),
-            Stage::Inside => Err(Fault::out_of_turn(session)),
-            Stage::Try => self.try_free(memory, session, bin),
-            Stage::Open => self.open(memory, session, bin),
-            Stage::Await => self.await_next(memory, session, bin),
-            Stage::Hand => self.hand(memory, session),
-        }
+        let stage = memory.own_stage(self.capacity(), session, bin)?;
+        Actor::new(*self, memory, session, bin).push(stage)
     }
 
     fn leave(
@@ -151,32 +128,22 @@ impl Bank for Queuing {
         session: usize,
         bin: usize,
     ) -> Result<LeaveAnswer, Fault> {
-        let own = memory.own_record(self.sizes, self.sizes.sessions, session, bin)?;
-        let Some(claim) = own else {
+        let Stage::Inside = memory.own_stage(self.capacity(), session, bin)? else {
             return Err(Fault::out_of_turn(session));
         };
-        let Stage::Inside = claim.stage else {
-            return Err(Fault::out_of_turn(session));
-        };
-        if claim.bin != bin {
-            return Err(Fault::out_of_turn(session));
-        }
-        self.look(memory, session, bin)
+        Actor::new(*self, memory, session, bin).look()
     }
 
     fn peek(&self, memory: &Memory, bin: usize) -> Result<(u64, bool), Fault> {
-        memory.admit_bin(self.sizes, self.sizes.sessions, bin)?;
-        let said = self.lawful_word(memory, bin)?;
-        Ok((memory.words[bin], said.is_calm()))
+        memory.admit_bin(self.capacity(), bin)?;
+        let word = memory.words[bin];
+        let said = self.lawful_word(word, bin)?;
+        Ok((word, said.is_calm()))
     }
 
     fn ahead(&self, memory: &Memory, session: usize) -> Result<Option<usize>, Fault> {
-        memory.admit_session(self.sizes, self.sizes.sessions, session)?;
-        let Some(claim) = memory.records[session] else {
+        if memory.record_of(self.capacity(), session)?.is_none() {
             return Ok(None);
-        };
-        if claim.bin >= self.sizes.bins {
-            return Err(Fault::bad_record(session));
         }
         self.count_ahead(memory, session)
     }

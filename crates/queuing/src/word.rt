@@ -1,20 +1,20 @@
-// The lock word: bit 63 says locked, bit 62 says window, bits 61 to 52 are a node number, bits 51 to 0 are a version.
+//! The lock word: bit 63 says locked, bit 62 says window, bits 61 to 52 are a node number, bits 51 to 0 are a version.
 ghost use Rattle.std.specs.Prelude.{◌≡◌, ℕ, ◌^◌, ◌<◌, Some};
 ghost use Rattle.queuing.specs.Word.{packed, unpacked, Within, closed, opened, calm_word, held_by};
 
-// How many versions there are before they go round. In a word it is the lowest bit of the node number.
-pub const VERSIONS: u64 = 0x0010_0000_0000_0000;
+/// How many versions there are before they go round. In a word it is the lowest bit of the node number.
+pub const VERSIONS: u64 = 1 << 52;
 
 // How many nodes a word can name.
 const NODES: u64 = 1024;
 
-const WINDOW: u64 = 0x4000_0000_0000_0000;
+const WINDOW: u64 = 1 << 62;
 
-const LOCKED: u64 = 0x8000_0000_0000_0000;
+const LOCKED: u64 = 1 << 63;
 
-// What a lawful word says: nobody is in line; the last in line; the last in line while a turn is handed over, when
-// readers are admitted.
-#[derive(Clone, Copy)]
+/// What a lawful word says: nobody is in line; the last in line; the last in line while a turn is handed over, when
+/// readers are admitted.
+#[derive(Clone, Copy, PartialEq, Eq, Debug)]
 pub enum Word {
     Free(u64),
     Held(u16),
@@ -22,21 +22,21 @@ pub enum Word {
 }
 
 impl Word {
-    // The word that says this. A number too large for its bits is cut to them.
+    /// The word that says this. A number too large for its bits is cut to them.
     pub fn pack(self) -> u64
         ensures value { result ≡ packed self }
         ensures undone { (sessions : ℕ) → Within sessions self → unpacked result sessions ≡ Some self }
     {
         match self {
             Word::Free(version) => version % VERSIONS,
-            Word::Held(node) => LOCKED + node as u64 % NODES * VERSIONS,
+            Word::Held(node) => LOCKED + u64::from(node) % NODES * VERSIONS,
             Word::Window(node, version) => {
-                LOCKED + WINDOW + node as u64 % NODES * VERSIONS + version % VERSIONS
+                LOCKED + WINDOW + u64::from(node) % NODES * VERSIONS + version % VERSIONS
             }
         }
     }
 
-    // What a word says; none unless it is lawful for so many sessions.
+    /// What a word says; none unless it is lawful for so many sessions.
     pub fn unpack(word: u64, sessions: usize) -> Option<Word>
         ensures value { result ≡ unpacked word sessions }
         ensures sound { (said : Word) → result ≡ Some said → Within sessions said × (packed said ≡ word) }
@@ -57,34 +57,28 @@ impl Word {
         }
     }
 
-    // Whether readers are admitted.
+    /// Whether readers are admitted.
     pub(crate) fn is_calm(self) -> bool
         ensures { result ≡ calm_word self }
     {
-        match self {
-            Word::Held(_) => false,
-            Word::Free(_) | Word::Window(_, _) => true,
-        }
+        !matches!(self, Word::Held(_))
     }
 
     pub(crate) fn is_held_by(self, session: usize) -> bool
         ensures { result ≡ held_by self session }
     {
-        match self {
-            Word::Held(node) => node as usize == session,
-            Word::Free(_) | Word::Window(_, _) => false,
-        }
+        matches!(self, Word::Held(node) if usize::from(node) == session)
     }
 }
 
-// The word without its window and its version.
+/// The word without its window and its version.
 pub(crate) fn closed(word: u64) -> u64
     ensures { result ≡ closed word }
 {
     word / LOCKED * LOCKED + word / VERSIONS % NODES * VERSIONS
 }
 
-// The word with a window and this version, at the node that it names.
+/// The word with a window and this version, at the node that it names.
 pub(crate) fn opened(word: u64, version: u64) -> u64
     requires { version < 2 ^ 52 }
     ensures { result ≡ opened word version }

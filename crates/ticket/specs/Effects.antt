@@ -1,8 +1,9 @@
 -- What a granted ask, push and leave do.
 use Rattle.std.specs.Prelude.{◌≡◌, ℕ, suc, ◌%◌, ◌<◌, ◌≤◌, Bool, true, false, cond, ◌&&◌, List, [], ◌∷◌, ◌++◌, Some, None, Ok, Option, ◌==◌, ◌≢◌, nat_eq, slice_index, slice_index_or, slice_set, refl}
+use Rattle.std.proofs.lemmas.Option.{same_Some}
 use Rattle.std.proofs.Common.{sym, ap, ◌∙◌, arith}
 use Rattle.std.proofs.lemmas.List.{get_or-set_other}
-use Rattle.std.proofs.lemmas.Bool.{eq-eqb, ne_eqb, and_right, true≢false}
+use Rattle.std.proofs.lemmas.Bool.{eq-eqb, ne_eqb, and_right, true≢false, false_from_ne_true}
 use Rattle.bank.specs.Claims.{passes, at, at_stage, claim}
 use Rattle.bank.specs.Kind.{Same, Entry, NoEntry, has}
 use Rattle.bank.specs.Laws.{AskEffect, PushEffect, LeaveEffect, FairAsk, FairPush, FairLeave}
@@ -13,20 +14,21 @@ use Rattle.bank.specs.declared.answers.AskAnswer.TheVariants.{In as EntersAtOnce
 use Rattle.bank.specs.declared.answers.LeaveAnswer.{LeaveAnswer}
 use Rattle.bank.specs.declared.answers.LeaveAnswer.TheVariants.{Out as OutAtOnce}
 use Rattle.bank.specs.declared.answers.PushAnswer.{PushAnswer}
-use Rattle.bank.specs.declared.answers.PushAnswer.TheVariants.{Waits, Moved, In, Out}
+use Rattle.bank.specs.declared.answers.PushAnswer.TheVariants.{Waits, In}
 use Rattle.bank.specs.declared.memory.Claim.{Claim}
 use Rattle.bank.proofs.Askers.{at_no_other, changed, same_stage, same_askers, same_inside, passes_join, passes_drop}
-use Rattle.bank.proofs.Claims.{some_same, untrue, passes_set, found_set, nobody_inside}
-use Rattle.bank.proofs.Distinct.{push_number, asked_in, asked_not_yet, out_moved}
+use Rattle.bank.proofs.Claims.{passes_set, found_set, nobody_inside}
+use Rattle.bank.proofs.Distinct.{asked_in, asked_not_yet}
 use Rattle.bank.proofs.Itself.{same_self}
 use Rattle.ticket.specs.declared.Turn.{Turn}
+use Rattle.ticket.specs.declared.Turn.TheVariants.{Inside}
 use Rattle.ticket.specs.Word.{served_of, word_of, after, past, outstanding, calm_of}
-use Rattle.ticket.specs.State.{State, turn, entered}
+use Rattle.ticket.specs.State.{State, entered, ticket_of}
 use Rattle.ticket.specs.Meaning.{inside, age_with, calm, holds, holders, line, needed_by}
 use Rattle.ticket.specs.Calls.{drawn, asks, pushes, served_next, leaves}
 use Rattle.ticket.specs.Tickets.{forward, served_below, past_forward, forward_past, forward_none, forward_apart}
 use Rattle.ticket.specs.Holders.{holders_set, holders_round, holders_push}
-use Rattle.ticket.specs.Invariant.{next_at, served_at, outstanding_at, Invariant, lengths, Unclaimed, asked, new_claim, ask_next, ask_length, ask_own, ask_room, ask_serves, ask_outstanding, ask_invariant, Claimed, entry_claim, pushed, push_own, push_at, push_invariant, left, leave_ticket, leave_serves, leave_outstanding, leave_few, leave_length, leave_own, leave_claims}
+use Rattle.ticket.specs.Invariant.{next_at, served_at, outstanding_at, Invariant, lengths, Unclaimed, asked, new_claim, ask_next, ask_length, ask_own, ask_room, ask_serves, ask_outstanding, ask_invariant, Claimed, entry_claim, pushed, push_own, push_at, push_invariant, left, leave_ticket, leave_serves, leave_outstanding, leave_few, leave_length, leave_own, leave_claims, new_ticket, new_entered}
 use Rattle.ticket.specs.Views.{ticket}
 use Rattle.ticket.specs.Meanings.{inside_one, of_ticket, holder_is, calm_outstanding, outstanding_calm, calm_inside, unasked_outstanding, line_first, line_place, line_meaning}
 
@@ -55,7 +57,7 @@ same_elsewhere s ws i r c w p q =
 -- PUSHES NEEDED
 few_needed : (r : Option (Claim Turn)) → needed_by r ≤ 1
 few_needed None = omega arith
-few_needed (Some c) = go c.stage.inside
+few_needed (Some c) = go (entered c.stage)
   where
     go : (t : Bool) → cond t 0 1 ≤ 1
     go true = omega arith
@@ -84,7 +86,7 @@ module _
   ask_entry : calm s b ≡ true → Entry ticket s t i b
   ask_entry q =
       let z = calm_inside s b I q in
-      let y = inside_one t b i (new_claim I U) (ask_invariant I U) (ask_own I U) refl q in
+      let y = inside_one t b i (new_claim I U) (ask_invariant I U) (ask_own I U) refl (new_entered I U ∙ q) in
       record {
         nobody_inside = z;
         not_leaving = refl;
@@ -95,7 +97,7 @@ module _
 
   ask_no_entry : calm s b ≡ false → NoEntry ticket s t b
   ask_no_entry q =
-      let out = and_right (b == b) (calm s b) q ∙ sym (ap (passes (at_stage entered b)) U.none) in
+      let out = and_right (b == b) (entered (new_claim I U).stage) (new_entered I U ∙ q) ∙ sym (ap (passes (at_stage entered b)) U.none) in
       let y = found_set (at_stage entered b) 0 s.memory.records i (Some (new_claim I U)) out in
       record {
         inside = y;
@@ -126,7 +128,8 @@ module _
       let m = forward (served_at s b) o in
       let f = past_forward (served_at s b) o (served_below (word_at s b)) (few l (ask_room I U) z.few_sessions) in
       let d : next_at s b ≡ m → ⊥ = λ q. differ l (ap (λ x. past x (served_at s b)) q ∙ f) in
-      and_right (b == b) (next_at s b == m) (ne_eqb (next_at s b) m d) ∙ sym (ap (passes (holds b m)) U.none)
+      let new = ne_eqb (ticket_of (new_claim I U).stage) m (λ q. d (sym (new_ticket I U) ∙ q)) in
+      and_right (b == b) (ticket_of (new_claim I U).stage == m) new ∙ sym (ap (passes (holds b m)) U.none)
     where
       few : {p q r : ℕ} → p < q → q < r → r ≤ 1024 → p < 4294967296
       few l m k = omega arith
@@ -139,7 +142,7 @@ module _
       let rs = t.memory.records in
       let v = served_at s b in
       let n = outstanding_at s b in
-      let ticket = sym (forward_past (next_at s b) v (ask_next I U) (served_below (word_at s b))) in
+      let ticket = new_ticket I U ∙ sym (forward_past (next_at s b) v (ask_next I U) (served_below (word_at s b))) in
       let last = holder_is t b (forward v n) i (new_claim I U) (ask_invariant I U) (ask_own I U) refl ticket in
       ap (λ x. holders rs b x (outstanding_at t b)) (ask_serves I U)
       ∙ ap (holders rs b v) (ask_outstanding I U)
@@ -155,7 +158,7 @@ module _
   calm_empty q = ap (holders s.memory.records b (served_at s b)) (calm_outstanding s b q)
 
   not_calm : (line s b ≢ []) → calm s b ≡ false
-  not_calm q = untrue (calm s b) (λ x. q (calm_empty x))
+  not_calm q = false_from_ne_true (calm s b) (λ x. q (calm_empty x))
 
   pub fair_ask : FairAsk ticket s t i b
   fair_ask =
@@ -171,25 +174,22 @@ module _
 -- a push that waits
 module _
     {s : State} {i b : ℕ} {c : Claim Turn} (I : Invariant s) (C : Claimed s i b c)
-    (et : c.stage.ticket ≡ served_at s b → ⊥) (e : pushes s i b ≡ granted s Waits) where
+    (et : ticket_of c.stage ≡ served_at s b → ⊥) (e : pushes s i b ≡ granted s Waits) where
   waited : (pushes s i b).answer ≡ Ok Waits
   waited = ap (λ (o : Outcome PushAnswer State). o.answer) e
-
-  waits_not : {A : Type 0} (y : PushAnswer) → (1 ≢ push_number (Ok y)) → (pushes s i b).answer ≡ Ok y → A
-  waits_not y n a = absurd (n (ap push_number (sym waited ∙ a)))
 
   pub push_waits_effect : PushEffect ticket s s i b
   push_waits_effect =
       record {
         waits_alters_nothing = λ a. refl;
         waits_keeps_all = λ a k. same_self ticket s k;
-        moved_enters_nobody = waits_not Moved (omega arith);
-        in_enters = waits_not In (omega arith);
-        out_had_left = waits_not Out (omega arith);
+        moved_enters_nobody = λ a. cc (waited);
+        in_enters = λ a. cc (waited);
+        out_had_left = λ a. cc (waited);
         out_keeps_inside = λ a. refl;
         out_keeps_age = λ a. refl;
-        out_takes_off = waits_not Out (omega arith);
-        out_ends_leaving = waits_not Out (omega arith);
+        out_takes_off = λ a. cc (waited);
+        out_ends_leaving = λ a. cc (waited);
         others_stay = λ a j. refl;
         other_bins_keep_all = λ k _ q. same_self ticket s k;
       }
@@ -198,9 +198,9 @@ module _
   not_first : (rest : List ℕ) → line s b ≢ i ∷ rest
   not_first rest q =
       let w = (line_place s b i [] rest I C.bin q).1 in
-      let d = some_same c w.0 (sym C.read ∙ w.1) in
+      let d = same_Some c w.0 (sym C.read ∙ w.1) in
       let z = forward_none (served_at s b) (served_below (word_at s b)) in
-      et (ap (λ (x : Claim Turn). x.stage.ticket) d ∙ w.3 ∙ z)
+      et (ap (λ (x : Claim Turn). ticket_of x.stage) d ∙ w.3 ∙ z)
 
   pub fair_push_waits : FairPush ticket s s i b
   fair_push_waits =
@@ -208,7 +208,7 @@ module _
         fewer_needed = λ a. absurd (a waited);
         no_other_needs_more = λ j q. no_more refl;
         line_stays = λ a. refl;
-        out_goes_first = waits_not Out (omega arith);
+        out_goes_first = λ a. cc (waited);
         first_does_not_wait = λ rest q l a. not_first rest q;
         leaver_waits_for_second = λ l a. absurd (true≢false (sym l));
       }
@@ -216,8 +216,8 @@ module _
 -- a push that brings the session in
 module _
     {s : State} {i b : ℕ} {c : Claim Turn} (I : Invariant s) (C : Claimed s i b c)
-    (ei : c.stage.inside ≡ false) (et : c.stage.ticket ≡ served_at s b)
-    (e : pushes s i b ≡ granted (with_record s i (Some (claim b (turn c.stage.ticket true)))) In) where
+    (ei : entered c.stage ≡ false) (et : ticket_of c.stage ≡ served_at s b)
+    (e : pushes s i b ≡ granted (with_record s i (Some (claim b (Inside (ticket_of c.stage))))) In) where
   -- the state after the push
   abbrev u : State
   u = pushed I C et
@@ -225,18 +225,15 @@ module _
   came_in : (pushes s i b).answer ≡ Ok In
   came_in = ap (λ (o : Outcome PushAnswer State). o.answer) e
 
-  in_not : {A : Type 0} (y : PushAnswer) → (3 ≢ push_number (Ok y)) → (pushes s i b).answer ≡ Ok y → A
-  in_not y n a = absurd (n (ap push_number (sym came_in ∙ a)))
-
   -- another one inside would hold the same ticket
   push_nobody : inside s b ≡ None
   push_nobody = nobody_inside entered s b other
     where
-      other : (j : ℕ) (d : Claim Turn) → record_of s j ≡ Some d → d.bin ≡ b → d.stage.inside ≢ true
+      other : (j : ℕ) (d : Claim Turn) → record_of s j ≡ Some d → d.bin ≡ b → entered d.stage ≢ true
       other j d f q r =
           let w = I.unique j i d c f C.read (q ∙ sym C.here) ((I.valid j b d f q).first r ∙ sym et) in
-          let k = some_same d c (sym f ∙ ap (record_of s) w ∙ C.read) in
-          true≢false (sym r ∙ ap (λ (z : Claim Turn). z.stage.inside) k ∙ ei)
+          let k = same_Some d c (sym f ∙ ap (record_of s) w ∙ C.read) in
+          true≢false (sym r ∙ ap (λ (z : Claim Turn). entered z.stage) k ∙ ei)
 
   push_entry : Entry ticket s u i b
   push_entry =
@@ -252,15 +249,15 @@ module _
   pub push_in_effect : PushEffect ticket s u i b
   push_in_effect =
       record {
-        waits_alters_nothing = in_not Waits (omega arith);
-        waits_keeps_all = in_not Waits (omega arith);
-        moved_enters_nobody = in_not Moved (omega arith);
+        waits_alters_nothing = λ a. cc (came_in);
+        waits_keeps_all = λ a. cc (came_in);
+        moved_enters_nobody = λ a. cc (came_in);
         in_enters = λ a. push_entry;
-        out_had_left = in_not Out (omega arith);
-        out_keeps_inside = in_not Out (omega arith);
-        out_keeps_age = in_not Out (omega arith);
-        out_takes_off = in_not Out (omega arith);
-        out_ends_leaving = in_not Out (omega arith);
+        out_had_left = λ a. cc (came_in);
+        out_keeps_inside = λ a. cc (came_in);
+        out_keeps_age = λ a. cc (came_in);
+        out_takes_off = λ a. cc (came_in);
+        out_ends_leaving = λ a. cc (came_in);
         others_stay =
             λ a j. passes_set (at b) s.memory.records i (Some (entry_claim I C et)) j (push_at I C et b);
         other_bins_keep_all =
@@ -276,7 +273,7 @@ module _
       holders_set s.memory.records i (Some (entry_claim I C et)) b v (outstanding_at s b) (λ o l. same (forward v o))
     where
       same : (m : ℕ) → passes (holds b m) (Some (entry_claim I C et)) ≡ passes (holds b m) (record_of s i)
-      same m = ap (λ d. (d == b) && c.stage.ticket == m) (sym C.here) ∙ sym (ap (passes (holds b m)) C.read)
+      same m = ap (λ d. (d == b) && ticket_of c.stage == m) (sym C.here) ∙ sym (ap (passes (holds b m)) C.read)
 
   pub fair_push_in : FairPush ticket s u i b
   fair_push_in =
@@ -284,8 +281,8 @@ module _
         fewer_needed = λ a. one_less (ap needed_by (push_own I C et)) (ap needed_by C.read ∙ ap (λ x. cond x 0 1) ei);
         no_other_needs_more = other_needs s i (Some (entry_claim I C et));
         line_stays = λ a. push_line;
-        out_goes_first = in_not Out (omega arith);
-        first_does_not_wait = λ rest q l. in_not Waits (omega arith);
+        out_goes_first = λ a. cc (came_in);
+        first_does_not_wait = λ rest q l a. cc (came_in);
         leaver_waits_for_second = λ l a. absurd (true≢false (sym l));
       }
     where
@@ -294,7 +291,7 @@ module _
 
 -- LEAVE
 module _
-    {s : State} {i b : ℕ} {c : Claim Turn} (I : Invariant s) (C : Claimed s i b c) (ei : c.stage.inside ≡ true)
+    {s : State} {i b : ℕ} {c : Claim Turn} (I : Invariant s) (C : Claimed s i b c) (ei : entered c.stage ≡ true)
     (e : leaves s i b ≡ served_next s i b (word_at s b)) where
   -- the state after the leave
   abbrev v : State
@@ -306,7 +303,7 @@ module _
   leave_nobody : inside v b ≡ None
   leave_nobody = nobody_inside entered v b other
     where
-      other : (j : ℕ) (d : Claim Turn) → record_of v j ≡ Some d → d.bin ≡ b → d.stage.inside ≢ true
+      other : (j : ℕ) (d : Claim Turn) → record_of v j ≡ Some d → d.bin ≡ b → entered d.stage ≢ true
       other j d f q r =
           let w = leave_claims I C ei j d f in
           let t = (I.valid j b d w.1 q).first r ∙ sym (leave_ticket I C ei) in
@@ -322,8 +319,8 @@ module _
             ∙ sym (ap (age_with (served_at s b)) (inside_one s b i c I C.read C.here ei));
         out_takes_off = λ a j. passes_drop (at b) s.memory.records i j (leave_length I C ei);
         out_leaves_nobody = λ a j. refl;
-        moved_stays_asker = λ a. out_moved (sym went_out ∙ a);
-        moved_is_leaving = λ a. out_moved (sym went_out ∙ a);
+        moved_stays_asker = λ a. cc (went_out);
+        moved_is_leaving = λ a. cc (went_out);
         other_bins_keep_all =
             λ k _ q.
             let w = get_or-set_other s.memory.words b k (word_of (next_at s b) (after (served_at s b))) 0 q in
@@ -338,13 +335,13 @@ module _
       ≡ passes (holds b (forward (suc (served_at s b)) o)) (record_of s i)
   leave_later o l =
       let m = forward (suc (served_at s b)) o in
-      let f = and_right (c.bin == b) (c.stage.ticket == m) (ne_eqb c.stage.ticket m differ) in
+      let f = and_right (c.bin == b) (ticket_of c.stage == m) (ne_eqb (ticket_of c.stage) m differ) in
       sym (ap (passes (holds b m)) C.read ∙ f)
     where
       few : {p q : ℕ} → p < q → suc q ≤ 1024 → suc p < 4294967296
       few l k = omega arith
 
-      differ : c.stage.ticket ≡ forward (suc (served_at s b)) o → ⊥
+      differ : ticket_of c.stage ≡ forward (suc (served_at s b)) o → ⊥
       differ q =
           let e = ap (λ n. n % 4294967296) (omega arith) ∙ sym q ∙ leave_ticket I C ei in
           forward_apart (served_at s b) o (served_below (word_at s b)) (few l (leave_few I C ei)) e
@@ -367,6 +364,6 @@ module _
       record {
         few_pushes_needed = no_more (ap needed_by (leave_own I C ei));
         no_other_needs_more = other_needs s i None;
-        line_stays = λ a. out_moved (sym went_out ∙ a);
+        line_stays = λ a. cc (went_out);
         out_goes_first = λ a. leave_line;
       }

@@ -1,5 +1,6 @@
 -- What holds in every reached state of the ticket kind, and that layout, ask, push and leave keep it.
 use Rattle.std.specs.Prelude.{◌≡◌, ℕ, suc, ◌<◌, ◌≤◌, true, ◌⊎◌, length, Some, None, ◌==◌, ◌≢◌, nat_eq, refl}
+use Rattle.std.proofs.lemmas.Option.{same_Some}
 use Rattle.std.proofs.Common.{inl, inr, sym, ap, subst, ◌∙◌, arith}
 use Rattle.std.proofs.lemmas.List.{get_or-set_same, get_or-set_other, length-set, length-replicate, get_or-replicate}
 use Rattle.std.proofs.lemmas.Bool.{eqb-true, eq-eqb, ne_eqb, cases_eq, cases_lt}
@@ -9,11 +10,12 @@ use Rattle.bank.specs.declared.memory.Claim.{Claim}
 use Rattle.bank.specs.declared.memory.Sizes.{Sizes}
 use Rattle.bank.proofs.Admission.{Sized, sized}
 use Rattle.bank.proofs.Askers.{at_no_other}
-use Rattle.bank.proofs.Claims.{some_same, some_none, get_or_replicate_none, write_cases, claim_cases}
+use Rattle.bank.proofs.Claims.{some_none, get_or_replicate_none, write_cases, claim_cases}
 use Rattle.bank.proofs.Counts.{count, one, count_le, count_set, count_same, count_none}
 use Rattle.ticket.specs.declared.Turn.{Turn}
+use Rattle.ticket.specs.declared.Turn.TheVariants.{Inside}
 use Rattle.ticket.specs.Word.{next_of, served_of, word_of, after, past, outstanding}
-use Rattle.ticket.specs.State.{State, sessions_of, bins_of, nodes_for, turn}
+use Rattle.ticket.specs.State.{State, sessions_of, bins_of, nodes_for, turn, ticket_of, entered, ticket_of-turn, entered-turn}
 use Rattle.ticket.specs.Calls.{laid_out, drawn, served_next}
 use Rattle.ticket.specs.Tickets.{forward, served_word, outstanding_word, word_below, next_below, served_below, after_below, past_same, past_zero, past_more, past_less, forward_past, forward_after, forward_apart}
 
@@ -33,14 +35,14 @@ fits s z = fitting nodes_for s z ≡ true
 -- a claim at bin b, of so many bins, whose word is w: its ticket is outstanding, and the one served if it is inside
 pub record Valid (bins b w : ℕ) (c : Claim Turn) : Type 0 where
   pub bin : b < bins
-  pub ticket : c.stage.ticket < 4294967296
-  pub drawn : past c.stage.ticket (served_of w) < outstanding w
-  pub first : c.stage.inside ≡ true → c.stage.ticket ≡ served_of w
+  pub ticket : ticket_of c.stage < 4294967296
+  pub drawn : past (ticket_of c.stage) (served_of w) < outstanding w
+  pub first : entered c.stage ≡ true → ticket_of c.stage ≡ served_of w
 
 -- someone holds the ticket that is o places after the one served
 abbrev pub Held : State → ℕ → ℕ → Type 0
 Held s b o =
-    (j : ℕ) × (c : Claim Turn) × (record_of s j ≡ Some c) × (c.bin ≡ b) × (c.stage.ticket ≡ forward (served_at s b) o)
+    (j : ℕ) × (c : Claim Turn) × (record_of s j ≡ Some c) × (c.bin ≡ b) × (ticket_of c.stage ≡ forward (served_at s b) o)
 
 pub record Invariant (s : State) : Type 0 where
   pub fit : fits s s.bank.sizes
@@ -50,7 +52,7 @@ pub record Invariant (s : State) : Type 0 where
       (i b : ℕ) (c : Claim Turn) → record_of s i ≡ Some c → c.bin ≡ b → Valid (bins_of s) b (word_at s b) c
   pub unique :
       (i j : ℕ) (c d : Claim Turn) → record_of s i ≡ Some c → record_of s j ≡ Some d → c.bin ≡ d.bin →
-      c.stage.ticket ≡ d.stage.ticket → i ≡ j
+      ticket_of c.stage ≡ ticket_of d.stage → i ≡ j
   pub held : (b o : ℕ) → b < bins_of s → o < outstanding_at s b → Held s b o
 
 pub lengths : (s : State) → Invariant s → Sized 0 s.bank.sizes s.memory
@@ -195,13 +197,20 @@ module _ {s : State} {i b : ℕ} (I : Invariant s) (U : Unclaimed s i b) where
           ∙ I.number c h
           ∙ sym (ap outstanding p.1)
 
+  -- the new claim has the next ticket, and is inside exactly if that is the one served
+  pub new_ticket : ticket_of new_claim.stage ≡ next_at s b
+  new_ticket = ticket_of-turn (next_at s b) (next_at s b == served_at s b)
+
+  pub new_entered : entered new_claim.stage ≡ (next_at s b == served_at s b)
+  new_entered = entered-turn (next_at s b) (next_at s b == served_at s b)
+
   ask_new_valid : Valid (bins_of s) b (word_at asked b) new_claim
   ask_new_valid =
       record {
         bin = U.bin;
-        ticket = ask_next;
-        drawn = rw (ask_outstanding, ask_serves) (omega arith);
-        first = λ q. eqb-true (next_at s b) (served_at s b) q ∙ sym ask_serves;
+        ticket = rw new_ticket ask_next;
+        drawn = rw (new_ticket, ask_outstanding, ask_serves) (omega arith);
+        first = λ q. new_ticket ∙ eqb-true (next_at s b) (served_at s b) (sym new_entered ∙ q) ∙ sym ask_serves;
       }
 
   ask_old_valid : (c : Claim Turn) → Valid (bins_of s) b (word_at s b) c → Valid (bins_of s) b (word_at asked b) c
@@ -226,16 +235,16 @@ module _ {s : State} {i b : ℕ} (I : Invariant s) (U : Unclaimed s i b) where
   -- nobody held the new ticket
   ask_new :
       {A : Type 0} (j : ℕ) (c d : Claim Turn) → record_of s j ≡ Some c → new_claim ≡ d → d.bin ≡ c.bin →
-      d.stage.ticket ≡ c.stage.ticket → A
+      ticket_of d.stage ≡ ticket_of c.stage → A
   ask_new j c d f e p q =
       let V = I.valid j b c f (sym p ∙ ap (λ (z : Claim Turn). z.bin) (sym e)) in
-      let t : c.stage.ticket ≡ next_at s b = sym q ∙ ap (λ (z : Claim Turn). z.stage.ticket) (sym e) in
+      let t : ticket_of c.stage ≡ next_at s b = sym q ∙ ap (λ (z : Claim Turn). ticket_of z.stage) (sym e) ∙ new_ticket in
       let l = subst (λ t. past t (served_at s b) < outstanding_at s b) t V.drawn in
       absurd (omega (arith, l))
 
   ask_unique :
       (j k : ℕ) (c d : Claim Turn) → record_of asked j ≡ Some c → record_of asked k ≡ Some d → c.bin ≡ d.bin →
-      c.stage.ticket ≡ d.stage.ticket → j ≡ k
+      ticket_of c.stage ≡ ticket_of d.stage → j ≡ k
   ask_unique j k c d f g p q = go (ask_claims j c f) (ask_claims k d g)
     where
       go : ClaimCases s i new_claim j c → ClaimCases s i new_claim k d → j ≡ k
@@ -264,7 +273,7 @@ module _ {s : State} {i b : ℕ} (I : Invariant s) (U : Unclaimed s i b) where
       go (inl k) =
           let w = I.held b o U.bin k in
           (w.0, w.1, ask_keeps w.0 w.1 w.2, w.3, w.4 ∙ ap (λ v. forward v o) (sym ask_serves))
-      go (inr k) = (i, new_claim, ask_own, refl, last (omega arith))
+      go (inr k) = (i, new_claim, ask_own, refl, new_ticket ∙ last (omega arith))
 
   ask_held : (c o : ℕ) → c < bins_of s → o < outstanding_at asked c → Held asked c o
   ask_held c o h l = go (ask_words c)
@@ -299,9 +308,9 @@ pub record Claimed (s : State) (i b : ℕ) (c : Claim Turn) : Type 0 where
 -- a push that brings the session in, since its ticket is the one served
 module _
     {s : State} {i b : ℕ} {c : Claim Turn} (I : Invariant s) (C : Claimed s i b c)
-    (et : c.stage.ticket ≡ served_at s b) where
+    (et : ticket_of c.stage ≡ served_at s b) where
   abbrev pub entry_claim : Claim Turn
-  entry_claim = claim b (turn c.stage.ticket true)
+  entry_claim = claim b (Inside (ticket_of c.stage))
 
   abbrev pub pushed : State
   pushed = with_record s i (Some entry_claim)
@@ -318,15 +327,15 @@ module _
   -- its bin and its ticket are those from before
   push_before :
       (j : ℕ) (d : Claim Turn) → record_of pushed j ≡ Some d →
-      (x : Claim Turn) × (record_of s j ≡ Some x) × (x.bin ≡ d.bin) × (x.stage.ticket ≡ d.stage.ticket)
+      (x : Claim Turn) × (record_of s j ≡ Some x) × (x.bin ≡ d.bin) × (ticket_of x.stage ≡ ticket_of d.stage)
   push_before j d f = go (push_claims j d f)
     where
       go :
           ClaimCases s i entry_claim j d →
-          (x : Claim Turn) × (record_of s j ≡ Some x) × (x.bin ≡ d.bin) × (x.stage.ticket ≡ d.stage.ticket)
+          (x : Claim Turn) × (record_of s j ≡ Some x) × (x.bin ≡ d.bin) × (ticket_of x.stage ≡ ticket_of d.stage)
       go (inl p) =
           let q : c.bin ≡ d.bin = C.here ∙ ap (λ (z : Claim Turn). z.bin) p.1 in
-          (c, ap (record_of s) p.0 ∙ C.read, q, ap (λ (z : Claim Turn). z.stage.ticket) p.1)
+          (c, ap (record_of s) p.0 ∙ C.read, q, ap (λ (z : Claim Turn). ticket_of z.stage) p.1)
       go (inr p) = (d, p.1, refl, refl)
 
   pub push_at : (k : ℕ) → passes (at k) (Some entry_claim) ≡ passes (at k) (record_of s i)
@@ -347,7 +356,7 @@ module _
 
   push_unique :
       (j k : ℕ) (d f : Claim Turn) → record_of pushed j ≡ Some d → record_of pushed k ≡ Some f → d.bin ≡ f.bin →
-      d.stage.ticket ≡ f.stage.ticket → j ≡ k
+      ticket_of d.stage ≡ ticket_of f.stage → j ≡ k
   push_unique j k d f g h p q =
       let x = push_before j d g in
       let y = push_before k f h in
@@ -361,9 +370,9 @@ module _
         where
           same : (w.0 ≡ i) ⊎ (w.0 ≢ i) → Held pushed k o
           same (inl p) =
-              let q = some_same c w.1 (sym C.read ∙ sym (ap (record_of s) p) ∙ w.2) in
+              let q = same_Some c w.1 (sym C.read ∙ sym (ap (record_of s) p) ∙ w.2) in
               let x : b ≡ k = sym C.here ∙ ap (λ (z : Claim Turn). z.bin) q ∙ w.3 in
-              (i, entry_claim, push_own, x, ap (λ (z : Claim Turn). z.stage.ticket) q ∙ w.4)
+              (i, entry_claim, push_own, x, ap (λ (z : Claim Turn). ticket_of z.stage) q ∙ w.4)
           same (inr n) =
               (w.0, w.1, get_or-set_other s.memory.records i w.0 (Some entry_claim) None n ∙ w.2, w.3, w.4)
 
@@ -379,7 +388,7 @@ module _
       }
 
 -- a leave of one that is inside
-module _ {s : State} {i b : ℕ} {c : Claim Turn} (I : Invariant s) (C : Claimed s i b c) (ei : c.stage.inside ≡ true) where
+module _ {s : State} {i b : ℕ} {c : Claim Turn} (I : Invariant s) (C : Claimed s i b c) (ei : entered c.stage ≡ true) where
   abbrev pub left : State
   left = (served_next s i b (word_at s b)).after
 
@@ -389,7 +398,7 @@ module _ {s : State} {i b : ℕ} {c : Claim Turn} (I : Invariant s) (C : Claimed
   leave_claim_valid : Valid (bins_of s) b (word_at s b) c
   leave_claim_valid = I.valid i b c C.read C.here
 
-  pub leave_ticket : c.stage.ticket ≡ served_at s b
+  pub leave_ticket : ticket_of c.stage ≡ served_at s b
   leave_ticket = leave_claim_valid.first ei
 
   leave_next : next_at s b < 4294967296
@@ -462,7 +471,7 @@ module _ {s : State} {i b : ℕ} {c : Claim Turn} (I : Invariant s) (C : Claimed
   -- another claim at this bin has a later ticket
   leave_later :
       (j : ℕ) (d : Claim Turn) → (j ≢ i) → record_of s j ≡ Some d → d.bin ≡ b →
-      d.stage.ticket ≢ served_at s b
+      ticket_of d.stage ≢ served_at s b
   leave_later j d n f q r = n (I.unique j i d c f C.read (q ∙ sym C.here) (r ∙ sym leave_ticket))
 
   leave_valid_here :
@@ -471,13 +480,13 @@ module _ {s : State} {i b : ℕ} {c : Claim Turn} (I : Invariant s) (C : Claimed
   leave_valid_here j d n f q =
       let V = I.valid j b d f q in
       let later = leave_later j d n f q in
-      let t = d.stage.ticket in
+      let t = ticket_of d.stage in
       let z = not_zero (λ z. later (past_zero t (served_at s b) V.ticket leave_served z)) in
       let l = lower V.drawn (past_less t (served_at s b) V.ticket leave_served z) leave_outstanding in
       record {
         bin = C.bin;
         ticket = V.ticket;
-        drawn = subst (λ v. past d.stage.ticket v < outstanding_at left b) (sym leave_serves) l;
+        drawn = subst (λ v. past (ticket_of d.stage) v < outstanding_at left b) (sym leave_serves) l;
         first = λ y. absurd (later (V.first y));
       }
     where
@@ -501,21 +510,21 @@ module _ {s : State} {i b : ℕ} {c : Claim Turn} (I : Invariant s) (C : Claimed
 
   leave_unique :
       (j k : ℕ) (d f : Claim Turn) → record_of left j ≡ Some d → record_of left k ≡ Some f → d.bin ≡ f.bin →
-      d.stage.ticket ≡ f.stage.ticket → j ≡ k
+      ticket_of d.stage ≡ ticket_of f.stage → j ≡ k
   leave_unique j k d f g h p q = I.unique j k d f (leave_claims j d g).1 (leave_claims k f h).1 p q
 
   -- a claim unlike the leaver's is another session's, and stays
   leave_keeps_other :
       (j : ℕ) (d : Claim Turn) → record_of s j ≡ Some d → (d ≢ c) → record_of left j ≡ Some d
   leave_keeps_other j d f n =
-      get_or-set_other s.memory.records i j None None (λ q. n (some_same d c (sym f ∙ ap (record_of s) q ∙ C.read))) ∙ f
+      get_or-set_other s.memory.records i j None None (λ q. n (same_Some d c (sym f ∙ ap (record_of s) q ∙ C.read))) ∙ f
 
   leave_held_here : (o : ℕ) → o < outstanding_at left b → Held left b o
   leave_held_here o l = go (I.held b (suc o) C.bin (subst (λ n. suc o < n) (sym leave_outstanding) (omega arith)))
     where
-      apart : (d : Claim Turn) → d.stage.ticket ≡ forward (served_at s b) (suc o) → d ≢ c
+      apart : (d : Claim Turn) → ticket_of d.stage ≡ forward (served_at s b) (suc o) → d ≢ c
       apart d t q =
-          let e = sym t ∙ ap (λ (z : Claim Turn). z.stage.ticket) q ∙ leave_ticket in
+          let e = sym t ∙ ap (λ (z : Claim Turn). ticket_of z.stage) q ∙ leave_ticket in
           forward_apart (served_at s b) o leave_served (omega (arith, leave_few)) e
 
       go : Held s b (suc o) → Held left b o

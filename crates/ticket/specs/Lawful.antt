@@ -79,7 +79,7 @@ ticket_lawful =
       layout_rule = layout_rule ticket laid_out (λ s z a. refl);
       laid_out = laid_out_means;
       laid_out_alike =
-          layouts_alike ticket laid_out (λ s z a. refl) (λ s t z a. laid_alike (word_of a a) s t z);
+          layouts_alike ticket laid_out (λ s z a. refl) (λ s t z a. laid_alike 0 (word_of a a) s t z);
       effective_decides = whole_state_decides ticket (λ s. refl);
       refused_alters_nothing = refused_alters_nothing;
       calls_keep_sizes = calls_keep_sizes;

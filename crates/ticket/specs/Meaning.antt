@@ -1,11 +1,11 @@
 -- What a state of the ticket kind means at each bin.
-use Rattle.std.specs.Prelude.{ℕ, zero, suc, ◌%◌, Bool, false, cond, List, [], ◌∷◌, Some, None, Option, nat_eq}
+use Rattle.std.specs.Prelude.{ℕ, zero, suc, ◌%◌, Bool, false, if◌then◌else◌, List, [], ◌∷◌, Some, None, Option, nat_eq}
 use Rattle.bank.specs.Locks.{word_at, record_of}
 use Rattle.bank.specs.Claims as claims
 use Rattle.bank.specs.Claims.{found, at_stage}
 use Rattle.bank.specs.declared.memory.Claim.{Claim}
 use Rattle.ticket.specs.declared.Turn.{Turn}
-use Rattle.ticket.specs.State.{State, entered}
+use Rattle.ticket.specs.State.{State, entered, ticket_of}
 use Rattle.ticket.specs.Word as word
 use Rattle.ticket.specs.Word.{served_of, outstanding, after}
 
@@ -32,7 +32,7 @@ mark s b = word_at s b
 
 -- a claim at bin b with ticket t
 abbrev pub holds : ℕ → ℕ → Claim Turn → Bool
-holds b t = at_stage (λ (turn : Turn). nat_eq turn.ticket t) b
+holds b t = at_stage (λ (turn : Turn). nat_eq (ticket_of turn) t) b
 
 abbrev pub listed : Option ℕ → List ℕ → List ℕ
 listed None js = js
@@ -50,7 +50,7 @@ line s b = holders s.memory.records b (served_of (word_at s b)) (outstanding (wo
 -- one push brings a waiting session in
 abbrev pub needed_by : Option (Claim Turn) → ℕ
 needed_by None = 0
-needed_by (Some c) = cond c.stage.inside 0 1
+needed_by (Some c) = if entered c.stage then 0 else 1
 
 abbrev pub needed : State → ℕ → ℕ
 needed s i = needed_by (record_of s i)

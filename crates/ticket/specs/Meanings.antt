@@ -13,7 +13,7 @@ use Rattle.bank.proofs.Claims.{found_replicate, asker_claim, claim_asker, inside
 use Rattle.bank.proofs.Layouts.{layout_granted}
 use Rattle.ticket.specs.declared.Turn.{Turn}
 use Rattle.ticket.specs.Word.{served_of, past}
-use Rattle.ticket.specs.State.{State, bins_of, entered}
+use Rattle.ticket.specs.State.{State, bins_of, entered, ticket_of}
 use Rattle.ticket.specs.Meaning.{inside, age_with, calm, holds, listed, holders, line}
 use Rattle.ticket.specs.Calls.{laid_out, lays}
 use Rattle.ticket.specs.Tickets.{forward, served_word, next_below, served_below, after_below, past_same, past_zero, forward_past}
@@ -24,32 +24,32 @@ use Rattle.ticket.specs.Views.{ticket, claim_in_range}
 -- only the holder of the ticket served is inside
 pub inside_one :
     (s : State) (b i : ℕ) (c : Claim Turn) → Invariant s → record_of s i ≡ Some c → c.bin ≡ b →
-    c.stage.inside ≡ true → inside s b ≡ Some i
+    entered c.stage ≡ true → inside s b ≡ Some i
 inside_one s b i c I e q r =
     one_inside entered s b i c e q r only
   where
-    only : (j : ℕ) (d : Claim Turn) → record_of s j ≡ Some d → d.bin ≡ b → d.stage.inside ≡ true → j ≡ i
+    only : (j : ℕ) (d : Claim Turn) → record_of s j ≡ Some d → d.bin ≡ b → entered d.stage ≡ true → j ≡ i
     only j d f p h =
         I.unique j i d c f e (p ∙ sym q) ((I.valid j b d f p).first h ∙ sym ((I.valid i b c e q).first r))
 
 -- the holder of a ticket
 abbrev pub of_ticket : ℕ → Turn → Bool
-of_ticket t x = x.ticket == t
+of_ticket t x = ticket_of x == t
 
 pub holder_is :
     (s : State) (b t i : ℕ) (c : Claim Turn) → Invariant s → record_of s i ≡ Some c → c.bin ≡ b →
-    c.stage.ticket ≡ t → found (holds b t) 0 s.memory.records ≡ Some i
-holder_is s b t i c I e q r = one_inside (of_ticket t) s b i c e q (eq-eqb c.stage.ticket t r) only
+    ticket_of c.stage ≡ t → found (holds b t) 0 s.memory.records ≡ Some i
+holder_is s b t i c I e q r = one_inside (of_ticket t) s b i c e q (eq-eqb (ticket_of c.stage) t r) only
   where
     only : (j : ℕ) (d : Claim Turn) → record_of s j ≡ Some d → d.bin ≡ b → of_ticket t d.stage ≡ true → j ≡ i
-    only j d f p k = I.unique j i d c f e (p ∙ sym q) (eqb-true d.stage.ticket t k ∙ sym r)
+    only j d f p k = I.unique j i d c f e (p ∙ sym q) (eqb-true (ticket_of d.stage) t k ∙ sym r)
 
 holder_claim :
     (s : State) (b t i : ℕ) → found (holds b t) 0 s.memory.records ≡ Some i →
-    (c : Claim Turn) × (record_of s i ≡ Some c) × (c.bin ≡ b) × (c.stage.ticket ≡ t)
+    (c : Claim Turn) × (record_of s i ≡ Some c) × (c.bin ≡ b) × (ticket_of c.stage ≡ t)
 holder_claim s b t i e =
     let w = inside_claim (of_ticket t) s b i e in
-    (w.0, w.1, w.2, eqb-true w.0.stage.ticket t w.3)
+    (w.0, w.1, w.2, eqb-true (ticket_of w.0.stage) t w.3)
 
 -- a bin is calm exactly where no ticket is outstanding
 pub calm_outstanding : (s : State) (b : ℕ) → calm s b ≡ true → outstanding_at s b ≡ 0
@@ -123,7 +123,7 @@ laid_out_means s z a h =
 -- the holder of the ticket served is the first in line
 pub line_first :
     (s : State) (b i : ℕ) (c : Claim Turn) (n : ℕ) → Invariant s → record_of s i ≡ Some c → c.bin ≡ b →
-    c.stage.ticket ≡ served_at s b → outstanding_at s b ≡ suc n →
+    ticket_of c.stage ≡ served_at s b → outstanding_at s b ≡ suc n →
     line s b ≡ i ∷ holders s.memory.records b (suc (served_at s b)) n
 line_first s b i c n I e q r z =
     let rest = holders s.memory.records b (suc (served_at s b)) n in
@@ -134,7 +134,7 @@ line_first s b i c n I e q r z =
 pub line_place :
     (s : State) (b i : ℕ) (front rest : List ℕ) → Invariant s → b < bins_of s → line s b ≡ front ++ (i ∷ rest) →
     (length front < outstanding_at s b)
-    × ((c : Claim Turn) × (record_of s i ≡ Some c) × (c.bin ≡ b) × (c.stage.ticket ≡ forward (served_at s b) (length front)))
+    × ((c : Claim Turn) × (record_of s i ≡ Some c) × (c.bin ≡ b) × (ticket_of c.stage ≡ forward (served_at s b) (length front)))
 line_place s b i front rest I h e =
     let w = holders_at s.memory.records b (served_at s b) (outstanding_at s b) i front rest held e in
     (w.0, holder_claim s b (forward (served_at s b) (length front)) i w.1)
@@ -155,8 +155,8 @@ asker_in_line : (s : State) (b i : ℕ) → Invariant s → askers s b i ≡ tru
 asker_in_line s b i I p =
     let v = asker_claim s b i p in
     let V = I.valid i b v.0 v.1 v.2 in
-    let o = past v.0.stage.ticket (served_at s b) in
-    let t = sym (forward_past v.0.stage.ticket (served_at s b) V.ticket (served_below (word_at s b))) in
+    let o = past (ticket_of v.0.stage) (served_at s b) in
+    let t = sym (forward_past (ticket_of v.0.stage) (served_at s b) V.ticket (served_below (word_at s b))) in
     let h = holder_is s b (forward (served_at s b) o) i v.0 I v.1 v.2 t in
     holders_has s.memory.records b (served_at s b) (outstanding_at s b) i o V.drawn h
 
@@ -178,7 +178,7 @@ line_meaning s b I h =
           λ i e.
           let w = inside_claim entered s b i e in
           let V = I.valid i b w.0 w.1 w.2 in
-          let n = some_less (past w.0.stage.ticket (served_at s b)) (outstanding_at s b) V.drawn in
+          let n = some_less (past (ticket_of w.0.stage) (served_at s b)) (outstanding_at s b) V.drawn in
           let rest = holders s.memory.records b (suc (served_at s b)) n.0 in
           (rest, line_first s b i w.0 n.0 I w.1 w.2 (V.first w.3) n.1);
       only_first_leaving = λ i e. absurd (true≢false (sym e));

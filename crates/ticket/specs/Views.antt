@@ -1,7 +1,7 @@
 -- The ways that an ask, a push and a leave may go, and that every reached state has the invariant.
 use Rattle.std.specs.Prelude.{◌≡◌, ℕ, ◌<◌, Bool, true, false, ◌⊎◌, is_ok, Some, None, Ok, Err, Option, Result, ◌==◌, ◌≢◌, refl}
 use Rattle.std.proofs.Common.{inl, inr, ap, ◌∙◌}
-use Rattle.std.proofs.lemmas.Bool.{eqb-true, eqb-false, lt-ltb, le-leb, not-true}
+use Rattle.std.proofs.lemmas.Bool.{eqb-true, eqb-false, lt-ltb, le-leb}
 use Rattle.bank.specs.Claims as claims
 use Rattle.bank.specs.Claims.{at_stage, claim}
 use Rattle.bank.specs.Kind.{Kind, kind, Reached, after_layout, after_ask, after_push, after_leave}
@@ -13,13 +13,13 @@ use Rattle.bank.specs.declared.answers.PushAnswer.TheVariants.{Waits, In}
 use Rattle.bank.specs.declared.memory.Claim.{Claim}
 use Rattle.bank.specs.declared.memory.Sizes.{Sizes}
 use Rattle.bank.specs.declared.refusals.Fault.{Fault}
-use Rattle.bank.proofs.Admission.{owned, own_there}
-use Rattle.bank.proofs.Claims.{at_stage_parts}
+use Rattle.bank.proofs.Admission.{owned, own_there, At, stage_cases}
 use Rattle.bank.proofs.Layouts.{layout_granted}
 use Rattle.ticket.specs.declared.Turn.{Turn}
+use Rattle.ticket.specs.declared.Turn.TheVariants.{Waiting, Inside}
 use Rattle.ticket.specs.Word as words
 use Rattle.ticket.specs.Word.{outstanding, lawful}
-use Rattle.ticket.specs.State.{State, sessions_of, bins_of, nodes_for, turn, entered, not_entered, own_record, lawful_word}
+use Rattle.ticket.specs.State.{State, sessions_of, bins_of, nodes_for, entered, own_record, lawful_word, ticket_of}
 use Rattle.ticket.specs.Meaning as meaning
 use Rattle.ticket.specs.Calls as calls
 use Rattle.ticket.specs.Calls.{laid_out, lays, drawn, asks_word, asks_own, asks, pushes_word, pushes_own, pushes, served_next, leaves_word, leaves_own, leaves}
@@ -85,11 +85,11 @@ unclaimed s i b e =
     let o = owned 0 s.bank.sizes s.memory i b None e in
     record { session = o.admitted.session; bin = o.admitted.bin; none = o.read }
 
-claimed :
-    (s : State) (i b : ℕ) (c : Claim Turn) → own_record s i b ≡ Ok (Some c) → c.bin ≡ b → Claimed s i b c
-claimed s i b c e q =
-    let o = owned 0 s.bank.sizes s.memory i b (Some c) e in
-    record { session = o.admitted.session; bin = o.admitted.bin; read = o.read; here = q }
+abbrev Staged : State → ℕ → ℕ → Turn → Type 0
+Staged s i b g = At 0 s.bank.sizes s.memory i b g
+
+claimed : {s : State} {i b : ℕ} {g : Turn} → Staged s i b g → Claimed s i b (claim b g)
+claimed a = record { session = a.admitted.session; bin = a.admitted.bin; read = a.read; here = refl }
 
 -- ASK
 pub data AskView (s : State) (i b : ℕ) : Type 0 where
@@ -115,71 +115,52 @@ ask_view s i b = go (own_record s i b) refl
 pub data PushView (s : State) (i b : ℕ) : Type 0 where
   push_refused : (f : Fault) → pushes s i b ≡ refused s f → PushView s i b
   push_waits :
-      (c : Claim Turn) → Claimed s i b c → (c.stage.ticket ≢ served_at s b) → pushes s i b ≡ granted s Waits →
+      (c : Claim Turn) → Claimed s i b c → (ticket_of c.stage ≢ served_at s b) → pushes s i b ≡ granted s Waits →
       PushView s i b
   push_in :
-      (c : Claim Turn) → Claimed s i b c → c.stage.inside ≡ false → c.stage.ticket ≡ served_at s b →
-      pushes s i b ≡ granted (with_record s i (Some (claim b (turn c.stage.ticket true)))) In → PushView s i b
+      (c : Claim Turn) → Claimed s i b c → entered c.stage ≡ false → ticket_of c.stage ≡ served_at s b →
+      pushes s i b ≡ granted (with_record s i (Some (claim b (Inside (ticket_of c.stage))))) In → PushView s i b
 
 pub push_view : (s : State) (i b : ℕ) → PushView s i b
-push_view s i b = go (own_record s i b) refl
+push_view s i b =
+    stage_cases 0 s.bank.sizes s.memory i b (λ x. pushes s i b ≡ pushes_own x s i b → PushView s i b) stages push_refused refl
   where
     compare :
-        (c : Claim Turn) → Claimed s i b c → c.stage.inside ≡ false →
-        pushes s i b ≡ pushes_word c (Ok (word_at s b)) s i b →
-        (t : Bool) → (c.stage.ticket == served_at s b) ≡ t → PushView s i b
-    compare c C n e true g = push_in c C n (eqb-true c.stage.ticket (served_at s b) g) (e ∙ rw g)
-    compare c C n e false g = push_waits c C (eqb-false c.stage.ticket (served_at s b) g) (e ∙ rw g)
+        (t : ℕ) → Claimed s i b (claim b (Waiting t)) → pushes s i b ≡ pushes_word t (Ok (word_at s b)) s i b →
+        (x : Bool) → (t == served_at s b) ≡ x → PushView s i b
+    compare t C e true g = push_in (claim b (Waiting t)) C refl (eqb-true t (served_at s b) g) (e ∙ rw g)
+    compare t C e false g = push_waits (claim b (Waiting t)) C (eqb-false t (served_at s b) g) (e ∙ rw g)
 
     waiting :
-        (c : Claim Turn) → Claimed s i b c → c.stage.inside ≡ false →
-        pushes s i b ≡ pushes_word c (lawful_word s b) s i b → ReadCases s b → PushView s i b
-    waiting c C n e (inl w) =
-        compare c C n (e ∙ ap (λ x. pushes_word c x s i b) w) (c.stage.ticket == served_at s b) refl
-    waiting c C n e (inr w) = push_refused (bad_word b) (e ∙ ap (λ x. pushes_word c x s i b) w)
+        (t : ℕ) → Claimed s i b (claim b (Waiting t)) → pushes s i b ≡ pushes_word t (lawful_word s b) s i b →
+        ReadCases s b → PushView s i b
+    waiting t C e (inl w) = compare t C (e ∙ ap (λ x. pushes_word t x s i b) w) (t == served_at s b) refl
+    waiting t C e (inr w) = push_refused (bad_word b) (e ∙ ap (λ x. pushes_word t x s i b) w)
 
-    inner :
-        (c : Claim Turn) → own_record s i b ≡ Ok (Some c) → pushes s i b ≡ pushes_own (Ok (Some c)) s i b →
-        (t : Bool) → at_stage not_entered b c ≡ t → PushView s i b
-    inner c p e false f = push_refused (out_of_turn i) (e ∙ rw f)
-    inner c p e true f =
-        let k = at_stage_parts not_entered b c f in
-        let C = claimed s i b c p k.0 in
-        waiting c C (not-true c.stage.inside k.1) (e ∙ rw f) (read_cases s b)
-
-    go : (o : Result (Option (Claim Turn)) Fault) → own_record s i b ≡ o → PushView s i b
-    go (Err f) p = push_refused f (ap (λ o. pushes_own o s i b) p)
-    go (Ok None) p = push_refused (out_of_turn i) (ap (λ o. pushes_own o s i b) p)
-    go (Ok (Some c)) p = inner c p (ap (λ o. pushes_own o s i b) p) (at_stage not_entered b c) refl
+    stages : (g : Turn) → Staged s i b g → pushes s i b ≡ pushes_own (Ok g) s i b → PushView s i b
+    stages (Inside t) a e = push_refused (out_of_turn i) e
+    stages (Waiting t) a e = waiting t (claimed a) e (read_cases s b)
 
 -- LEAVE
 pub data LeaveView (s : State) (i b : ℕ) : Type 0 where
   leave_refused : (f : Fault) → leaves s i b ≡ refused s f → LeaveView s i b
   leave_out :
-      (c : Claim Turn) → Claimed s i b c → c.stage.inside ≡ true → leaves s i b ≡ served_next s i b (word_at s b) →
+      (c : Claim Turn) → Claimed s i b c → entered c.stage ≡ true → leaves s i b ≡ served_next s i b (word_at s b) →
       LeaveView s i b
 
 pub leave_view : (s : State) (i b : ℕ) → LeaveView s i b
-leave_view s i b = go (own_record s i b) refl
+leave_view s i b =
+    stage_cases 0 s.bank.sizes s.memory i b (λ x. leaves s i b ≡ leaves_own x s i b → LeaveView s i b) stages leave_refused refl
   where
     inside :
-        (c : Claim Turn) → Claimed s i b c → c.stage.inside ≡ true →
-        leaves s i b ≡ leaves_word (lawful_word s b) s i b → ReadCases s b → LeaveView s i b
-    inside c C n e (inl w) = leave_out c C n (e ∙ ap (λ x. leaves_word x s i b) w)
-    inside c C n e (inr w) = leave_refused (bad_word b) (e ∙ ap (λ x. leaves_word x s i b) w)
+        (t : ℕ) → Claimed s i b (claim b (Inside t)) → leaves s i b ≡ leaves_word (lawful_word s b) s i b →
+        ReadCases s b → LeaveView s i b
+    inside t C e (inl w) = leave_out (claim b (Inside t)) C refl (e ∙ ap (λ x. leaves_word x s i b) w)
+    inside t C e (inr w) = leave_refused (bad_word b) (e ∙ ap (λ x. leaves_word x s i b) w)
 
-    inner :
-        (c : Claim Turn) → own_record s i b ≡ Ok (Some c) → leaves s i b ≡ leaves_own (Ok (Some c)) s i b →
-        (t : Bool) → at_stage entered b c ≡ t → LeaveView s i b
-    inner c p e false f = leave_refused (out_of_turn i) (e ∙ rw f)
-    inner c p e true f =
-        let k = at_stage_parts entered b c f in
-        inside c (claimed s i b c p k.0) k.1 (e ∙ rw f) (read_cases s b)
-
-    go : (o : Result (Option (Claim Turn)) Fault) → own_record s i b ≡ o → LeaveView s i b
-    go (Err f) p = leave_refused f (ap (λ o. leaves_own o s i b) p)
-    go (Ok None) p = leave_refused (out_of_turn i) (ap (λ o. leaves_own o s i b) p)
-    go (Ok (Some c)) p = inner c p (ap (λ o. leaves_own o s i b) p) (at_stage entered b c) refl
+    stages : (g : Turn) → Staged s i b g → leaves s i b ≡ leaves_own (Ok g) s i b → LeaveView s i b
+    stages (Waiting t) a e = leave_refused (out_of_turn i) e
+    stages (Inside t) a e = inside t (claimed a) e (read_cases s b)
 
 -- EVERY REACHED STATE: each call keeps the invariant
 lays_invariant : (s : State) (z : Sizes) (a : ℕ) → is_ok (lays s z a).answer ≡ true → Invariant (lays s z a).after

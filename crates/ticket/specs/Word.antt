@@ -1,5 +1,8 @@
 -- The lock word of the ticket kind: the high half is the next ticket, the low half the one served.
-use Rattle.std.specs.Prelude.{ℕ, ◌+◌, ◌-◌, ◌*◌, ◌/◌, ◌%◌, Bool, ◌==◌, nat_le}
+use Rattle.std.specs.Prelude.{ℕ, ◌+◌, ◌-◌, ◌*◌, ◌/◌, ◌%◌, Bool, if◌then◌else◌, Ok, Err, Result, ◌==◌, nat_le}
+use Rattle.bank.specs.Refusals.{bad_word}
+use Rattle.bank.specs.declared.refusals.Fault.{Fault}
+use Rattle.ticket.specs.declared.word.Word.{Word}
 
 -- how many tickets there are before they go round: 2^32
 abbrev pub count : ℕ
@@ -13,6 +16,13 @@ served_of w = w % 4294967296
 
 abbrev pub word_of : ℕ → ℕ → ℕ
 word_of next served = next * 4294967296 + served
+
+-- a word as its halves, and the word of two halves
+abbrev pub halves : ℕ → Word
+halves w = record { next = next_of w; served = served_of w }
+
+abbrev pub packed : Word → ℕ
+packed h = word_of h.next h.served
 
 -- the ticket after t
 abbrev pub after : ℕ → ℕ
@@ -36,3 +46,7 @@ calm_of w = next_of w == served_of w
 
 abbrev pub age_of : ℕ → ℕ
 age_of w = served_of w
+
+-- the halves of a bin's word, or 9 at the bin
+abbrev pub lawful_halves : ℕ → ℕ → ℕ → Result Word Fault
+lawful_halves sessions b w = if lawful sessions w then Ok (halves w) else Err (bad_word b)

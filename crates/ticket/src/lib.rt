@@ -1,101 +1,54 @@
-// The ticket kind: a session draws the next ticket and enters when its ticket is served.
+//! The ticket kind: a session draws the next ticket and enters when its ticket is served.
 #![tactic(auto)]
 
-ghost use Rattle.std.specs.Prelude.{◌≡◌, ◌<◌, true, Some, vec_len};
-ghost use Rattle.bank.specs.Locks.{locks};
+ghost use Rattle.std.specs.Prelude.{◌≡◌, true};
 ghost use Rattle.ticket.specs.Word as tickets;
-ghost use Rattle.bank.specs.Claims.{claim, askers as asking};
-ghost use Rattle.ticket.specs.State.{nodes_for, turn, lawful_word};
+ghost use Rattle.bank.specs.Claims.{askers as asking};
+ghost use Rattle.ticket.specs.State.{nodes_for, ticket_of};
 ghost use Rattle.ticket.specs.Meaning as meaning;
 ghost use Rattle.ticket.specs.Calls as calls;
 ghost use Rattle.ticket.specs.Lawful.{ticket_lawful};
 
 use bank::{AskAnswer, Bank, Claim, Fault, LeaveAnswer, LockMemory, PushAnswer, Sizes};
+use word::{TICKETS, Word};
 
-// The ticket that a session drew at its bin, and whether it is inside.
-#[derive(Clone, Copy)]
-pub struct Turn {
-    pub ticket: u32,
-    pub inside: bool,
+mod word;
+
+/// The ticket that a session drew at its bin, where it waits or is inside.
+#[derive(Clone, Copy, PartialEq, Eq, Debug)]
+pub enum Turn {
+    Waiting(u32),
+    Inside(u32),
 }
 
-// A bank of ticket locks: the sizes that layout gave it.
-#[derive(Clone, Copy, Default)]
+impl Turn {
+    fn ticket(self) -> u32
+        ensures { result ≡ ticket_of self }
+    {
+        match self {
+            Turn::Waiting(ticket) | Turn::Inside(ticket) => ticket,
+        }
+    }
+}
+
+// What the kind is lent: lock words and the sessions' claims.
+type Memory = LockMemory<Option<Claim<Turn>>>;
+
+/// A bank of ticket locks: the sizes that layout gave it.
+#[derive(Clone, Copy, PartialEq, Eq, Debug, Default)]
 pub struct Ticket {
     sizes: Sizes,
 }
 
-// How many tickets there are before they go round.
-const TICKETS: u64 = 4294967296;
-
 // The kind links no line through nodes.
 const NODES: usize = 0;
-
-fn next_of(word: u64) -> u32
-    ensures { result ≡ tickets.next_of word }
-{
-    (word / TICKETS) as u32
-}
-
-fn served_of(word: u64) -> u32
-    ensures { result ≡ tickets.served_of word }
-{
-    (word % TICKETS) as u32
-}
-
-fn word_of(next: u32, served: u32) -> u64
-    ensures { result ≡ tickets.word_of next served }
-{
-    next as u64 * TICKETS + served as u64
-}
-
-// How many tickets lie from the one served up to another, going round.
-fn past(ticket: u32, served: u32) -> usize
-    ensures { result ≡ tickets.past ticket served }
-{
-    ticket.wrapping_sub(served) as usize
-}
-
-fn is_lawful(sessions: usize, word: u64) -> bool
-    ensures { result ≡ tickets.lawful sessions word }
-{
-    past(next_of(word), served_of(word)) <= sessions
-}
-
-// The record of a session with a ticket at a bin.
-fn claimed(bin: usize, ticket: u32, inside: bool) -> Option<Claim<Turn>>
-    ensures { result ≡ Some (claim bin (turn ticket inside)) }
-{
-    let stage = Turn { ticket, inside };
-    Some(Claim { bin, stage })
-}
-
-impl Ticket {
-    // A bin's lock word; refused by 9 if more tickets are outstanding than there are sessions.
-    fn lawful_word(
-        &self,
-        memory: &LockMemory<Option<Claim<Turn>>>,
-        bin: usize,
-    ) -> Result<u64, Fault>
-        requires { bin < vec_len memory.now.words }
-        ensures { result ≡ lawful_word (locks self.now memory.now) bin }
-    {
-        let word = memory.words[bin];
-        if !is_lawful(self.sizes.sessions, word) {
-            return Err(Fault::bad_word(bin));
-        }
-        Ok(word)
-    }
-}
 
 impl Bank for Ticket {
     type Record = Option<Claim<Turn>>;
 
     ghost extent = { λ k. k.sizes };
 
-    ghost nodesfor = { nodes_for };
-
-    ghost effective = { λ k. k };
+    ghost nodes_for = { nodes_for };
 
     ghost modulus = { tickets.count };
 
@@ -111,9 +64,9 @@ impl Bank for Ticket {
 
     ghost mark = { meaning.mark };
 
-    ghost calmof = { tickets.calm_of };
+    ghost calm_of = { tickets.calm_of };
 
-    ghost ageof = { tickets.age_of };
+    ghost age_of = { tickets.age_of };
 
     ghost fair = { true };
 
@@ -121,9 +74,9 @@ impl Bank for Ticket {
 
     ghost needed = { meaning.needed };
 
-    ghost entrypushes = { 1 };
+    ghost entry_pushes = { 1 };
 
-    ghost exitpushes = { 0 };
+    ghost exit_pushes = { 0 };
 
     ghost lays = { calls.lays };
 
@@ -147,108 +100,81 @@ impl Bank for Ticket {
         self.sizes
     }
 
-    fn layout(
-        &mut self,
-        memory: &mut LockMemory<Option<Claim<Turn>>>,
-        sizes: Sizes,
-        start: u64,
-    ) -> Result<(), Fault> {
-        if !memory.fits(sizes, NODES) || start >= TICKETS {
-            return Err(Fault::bad_size());
-        }
-        self.sizes = sizes;
-        let age = start as u32;
-        memory.words.fill(word_of(age, age));
-        memory.records.fill(None);
+    fn layout(&mut self, memory: &mut Memory, sizes: Sizes, start: u64) -> Result<(), Fault> {
+        let bank = Ticket { sizes };
+        memory.admit_layout(bank.capacity(), start, TICKETS)?;
+        *self = bank;
+        memory.reset(u64::from(Word::fresh(start as u32)));
         Ok(())
     }
 
-    fn ask(
-        &mut self,
-        memory: &mut LockMemory<Option<Claim<Turn>>>,
-        session: usize,
-        bin: usize,
-    ) -> Result<AskAnswer, Fault> {
-        let own = memory.own_record(self.sizes, NODES, session, bin)?;
-        let word = self.lawful_word(memory, bin)?;
+    fn ask(&mut self, memory: &mut Memory, session: usize, bin: usize) -> Result<AskAnswer, Fault> {
+        let own = memory.own_record(self.capacity(), session, bin)?;
+        let word = Word::lawful(memory.words[bin], self.sizes, bin)?;
         if own.is_some() {
             return Err(Fault::out_of_turn(session));
         }
-        let ticket = next_of(word);
-        let served = served_of(word);
-        let inside = ticket == served;
-        memory.words[bin] = word_of(ticket.wrapping_add(1), served);
-        memory.records[session] = claimed(bin, ticket, inside);
-        if inside {
-            Ok(AskAnswer::In)
+        let Word { next, served } = word;
+        let (stage, answer) = if word.is_calm() {
+            (Turn::Inside(next), AskAnswer::In)
         } else {
-            Ok(AskAnswer::NotYet)
-        }
+            (Turn::Waiting(next), AskAnswer::NotYet)
+        };
+        let next = next.wrapping_add(1);
+        memory.words[bin] = u64::from(Word { next, served });
+        memory.records[session] = Some(Claim { bin, stage });
+        Ok(answer)
     }
 
     fn push(
         &mut self,
-        memory: &mut LockMemory<Option<Claim<Turn>>>,
+        memory: &mut Memory,
         session: usize,
         bin: usize,
     ) -> Result<PushAnswer, Fault> {
-        let Some(claim) = memory.own_record(self.sizes, NODES, session, bin)? else {
+        let Turn::Waiting(ticket) = memory.own_stage(self.capacity(), session, bin)? else {
             return Err(Fault::out_of_turn(session));
         };
-        let ticket = claim.stage.ticket;
-        if claim.bin != bin || claim.stage.inside {
-            return Err(Fault::out_of_turn(session));
-        }
-        let word = self.lawful_word(memory, bin)?;
-        if ticket != served_of(word) {
+        let word = Word::lawful(memory.words[bin], self.sizes, bin)?;
+        if ticket != word.served {
             return Ok(PushAnswer::Waits);
         }
-        memory.records[session] = claimed(bin, ticket, true);
+        memory.records[session] = Some(Claim {
+            bin,
+            stage: Turn::Inside(ticket),
+        });
         Ok(PushAnswer::In)
     }
 
     fn leave(
         &mut self,
-        memory: &mut LockMemory<Option<Claim<Turn>>>,
+        memory: &mut Memory,
         session: usize,
         bin: usize,
     ) -> Result<LeaveAnswer, Fault> {
-        let Some(claim) = memory.own_record(self.sizes, NODES, session, bin)? else {
+        let Turn::Inside(_) = memory.own_stage(self.capacity(), session, bin)? else {
             return Err(Fault::out_of_turn(session));
         };
-        if claim.bin != bin || !claim.stage.inside {
-            return Err(Fault::out_of_turn(session));
-        }
-        let word = self.lawful_word(memory, bin)?;
-        memory.words[bin] = word_of(next_of(word), served_of(word).wrapping_add(1));
+        let Word { next, served } = Word::lawful(memory.words[bin], self.sizes, bin)?;
+        let served = served.wrapping_add(1);
+        memory.words[bin] = u64::from(Word { next, served });
         memory.records[session] = None;
         Ok(LeaveAnswer::Out)
     }
 
-    fn peek(
-        &self,
-        memory: &LockMemory<Option<Claim<Turn>>>,
-        bin: usize,
-    ) -> Result<(u64, bool), Fault> {
-        memory.admit_bin(self.sizes, NODES, bin)?;
-        let word = self.lawful_word(memory, bin)?;
-        Ok((word, next_of(word) == served_of(word)))
+    fn peek(&self, memory: &Memory, bin: usize) -> Result<(u64, bool), Fault> {
+        memory.admit_bin(self.capacity(), bin)?;
+        let mark = memory.words[bin];
+        let word = Word::lawful(mark, self.sizes, bin)?;
+        Ok((mark, word.is_calm()))
     }
 
-    fn ahead(
-        &self,
-        memory: &LockMemory<Option<Claim<Turn>>>,
-        session: usize,
-    ) -> Result<Option<usize>, Fault> {
-        memory.admit_session(self.sizes, NODES, session)?;
-        let Some(claim) = memory.records[session] else {
+    fn ahead(&self, memory: &Memory, session: usize) -> Result<Option<usize>, Fault> {
+        let Some(claim) = memory.record_of(self.capacity(), session)? else {
             return Ok(None);
         };
-        if claim.bin >= self.sizes.bins {
-            return Err(Fault::bad_record(session));
-        }
-        let word = self.lawful_word(memory, claim.bin)?;
-        let before = past(claim.stage.ticket, served_of(word));
+        let word = Word::lawful(memory.words[claim.bin], self.sizes, claim.bin)?;
+        let before = word.served_before(claim.stage.ticket());
         if before >= self.sizes.sessions {
             return Err(Fault::bad_record(session));
         }

@@ -1,18 +1,12 @@
--- What the kind's own call ensures, one more step from a reached state, and the kind's law.
-use Rattle.std.proofs.Common.{sym, subst}
-use Rattle.bank.specs.Kind.{Reached}
-use Rattle.bank.specs.KindOf.{kind_of}
-use Rattle.bank.specs.Locks.{locks}
-use Rattle.bank.proofs.Steps.{still_reached}
+-- One more call from a reached state.
+use Rattle.bank.proofs.Steps.{ask_reaches, push_reaches, leave_reaches}
 use Rattle.bank.proofs.calls.carry_out.Goals as goal
 
-pub returns : goal.returns
-returns g c =
-    let k = kind_of g.B.Bank in
-    let s = locks c.args.bank.now c.args.memory.now in
-    record {
-      answer = c.dispatch.ensures.answer;
-      after = c.dispatch.ensures.after;
-      reached = λ r. subst (Reached k) (sym c.dispatch.ensures.after) (still_reached k c.args.call s c.args.session c.args.bin r);
-      laws = g.met.B.Bank.lawful;
-    }
+pub returns-in-Ask-clause-reached : goal.returns-in-Ask-clause-reached
+returns-in-Ask-clause-reached g c = ask_reaches _ _ c.ask.ensures.after
+
+pub returns-in-Push-clause-reached : goal.returns-in-Push-clause-reached
+returns-in-Push-clause-reached g c = push_reaches _ _ c.push.ensures.after
+
+pub returns-in-Leave-clause-reached : goal.returns-in-Leave-clause-reached
+returns-in-Leave-clause-reached g c = leave_reaches _ _ c.leave.ensures.after
