@@ -1,5 +1,5 @@
 //! From a line to a command. A line that is no command gives none.
-ghost use Rattle.std.specs.Prelude.{◌≡◌, ℕ, List, Some, codes};
+ghost use Rattle.std.specs.Prelude.{◌≡◌, ◌∷◌, ℕ, List, Some, codes};
 ghost use Rattle.commands.specs.Syntax.{texts, kind_text, call_text, One, Laid, Four, Works, Behind, Reads, ReadAs};
 ghost use Rattle.commands.specs.Numbers.{digit_of, with_digit, read_digits, lock_word, number, word32, amount};
 
@@ -135,19 +135,19 @@ fn one(words: &[&str]) -> Option<usize>
     }
 }
 
-// KIND SESSIONS BINS AGE, and no more.
+// KIND SESSIONS BINS AGE, and no more. Of several words the last is read first, which keeps the proofs short.
 #[tactic(auto, unfolding(crate::specs::Syntax::Laid))]
 fn setup(words: &[&str]) -> Option<Setup>
     ensures { Reads Laid (texts words.now) result }
 {
     match words {
         [kind, sessions, bins, age] => Some(Setup {
-            kind: KindName::from_word(kind)?,
-            sizes: Sizes {
-                sessions: usize::from_word(sessions)?,
-                bins: usize::from_word(bins)?,
-            },
             start: u64::from_word(age)?,
+            sizes: Sizes {
+                bins: usize::from_word(bins)?,
+                sessions: usize::from_word(sessions)?,
+            },
+            kind: KindName::from_word(kind)?,
         }),
         _ => None,
     }
@@ -160,10 +160,10 @@ fn bin_words(words: &[&str]) -> Option<BinWords>
 {
     match words {
         [article, quantity, reserved, stamp] => Some(BinWords {
-            article: u32::from_word(article)?,
-            quantity: u32::from_word(quantity)?,
-            reserved: u32::from_word(reserved)?,
             stamp: u32::from_word(stamp)?,
+            reserved: u32::from_word(reserved)?,
+            quantity: u32::from_word(quantity)?,
+            article: u32::from_word(article)?,
         }),
         _ => None,
     }
@@ -177,10 +177,22 @@ fn job(words: &[&str]) -> Option<(usize, Job)>
     match words {
         ["lookup", bin] => Some((usize::from_word(bin)?, Job::Lookup)),
         ["set", bin, rest @ ..] => Some((usize::from_word(bin)?, Job::Set(bin_words(rest)?))),
-        ["adjust", bin, sum, stamp] => Some((
-            usize::from_word(bin)?,
-            Job::Adjust(i32::from_word(sum)?, u32::from_word(stamp)?),
-        )),
+        ["adjust", rest @ ..] => adjust(rest),
+        _ => None,
+    }
+}
+
+// BIN AMOUNT STAMP, and no more: what stands behind `adjust`.
+#[tactic(auto, unfolding(crate::specs::Syntax::Works))]
+fn adjust(words: &[&str]) -> Option<(usize, Job)>
+    ensures { Reads Works (codes "adjust" ∷ texts words.now) result }
+{
+    match words {
+        [bin, sum, stamp] => {
+            let stamp = u32::from_word(stamp)?;
+            let sum = i32::from_word(sum)?;
+            Some((usize::from_word(bin)?, Job::Adjust(sum, stamp)))
+        }
         _ => None,
     }
 }
