@@ -11,7 +11,7 @@ use commands::{Command, Declined, Reply, parse};
 use site::{Site, run_command};
 use std::alloc::Global;
 use std::io;
-use std::io::{BufReader, Read};
+use std::io::{BufRead, BufReader};
 
 // No command is longer, so a longer line is kept only this far and one byte more.
 const LONGEST: usize = 128;
@@ -41,22 +41,33 @@ fn print_answer(
     }
 }
 
+// None at an end of the input. A terminal may go on behind one.
+fn read_byte(input: &mut impl BufRead) -> io::Result<Option<u8>> {
+    let Some(&byte) = input.fill_buf()?.first() else {
+        return Ok(None);
+    };
+    input.consume(1);
+    Ok(Some(byte))
+}
+
 fn main(rt: HostRuntime) -> io::Result<()> {
-    let input = BufReader::new(rt.alloc(), rt.stdin())?;
+    let mut input = BufReader::new(rt.alloc(), rt.stdin())?;
     let mut line = Vec::with_capacity(rt.alloc(), LONGEST + 1)?;
     let mut site = None;
-    for byte in input.bytes() {
-        match byte? {
-            b'\n' => {
+    // nothing says that an input ends, so the turns are counted
+    for _ in 0..u64::MAX {
+        match read_byte(&mut input)? {
+            Some(byte) if byte != b'\n' => {
+                if line.len() <= LONGEST {
+                    line.push(byte)?;
+                }
+            }
+            None if line.is_empty() => break,
+            _ => {
                 print_answer(&rt, &mut site, &line)?;
                 line.clear();
             }
-            byte if line.len() <= LONGEST => line.push(byte)?,
-            _ => {}
         }
-    }
-    if !line.is_empty() {
-        print_answer(&rt, &mut site, &line)?;
     }
     Ok(())
 }
