@@ -33,8 +33,11 @@ fn with_digit(radix: u64, value: u64, byte: u8) -> Option<u64>
 fn read_digits(radix: u64, text: &[u8]) -> Option<u64>
     ensures { result ≡ read_digits radix text.now }
 {
-    text.iter()
-        .fold(Some(0), |value, &byte| with_digit(radix, value?, byte))
+    let mut value = 0;
+    for &byte in text {
+        value = with_digit(radix, value, byte)?;
+    }
+    Some(value)
 }
 
 // A number in decimal digits, without sign and without leading zeros, below 2^64.
