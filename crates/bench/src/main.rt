@@ -1,9 +1,10 @@
 //! Times the steps of each kind at 1 and at 1,024 sessions. What was done goes to standard output, the times to standard
-//! error. The argument is the number of turns; a turn is an ask, the pushes that it needs, and a leave.
+//! error. The argument, the last of several, is the number of turns; a turn is an ask, the pushes that it needs, and a leave.
 #![tactic(auto)]
 
-use bank::{AskAnswer, Bank, Fault, LaidBank, Sizes};
+use bank::{AskAnswer, Bank, Fault, LaidBank, LayoutError, Sizes};
 use central::Central;
+use std::alloc::AllocError;
 use std::env;
 use std::time::Instant;
 use ticket::Ticket;
@@ -31,6 +32,14 @@ fn turns<B: Bank>(laid: &mut LaidBank<B>, sessions: usize, count: usize) -> Resu
     Ok(steps)
 }
 
+// Memory that ran out is told as the allocator tells it.
+fn no_layout(e: LayoutError) -> anyhow::Error {
+    match e {
+        LayoutError::Refused(fault) => fault.into(),
+        LayoutError::NoMemory => AllocError.into(),
+    }
+}
+
 fn time<B: Bank + Default + Drop>(
     rt: &HostRuntime,
     name: &str,
@@ -41,7 +50,7 @@ where
     B::Record: Copy + Default,
 {
     let sizes = Sizes { sessions, bins: 1 };
-    let mut laid = LaidBank::<B>::lay_out(rt.alloc(), sizes, 0)?;
+    let mut laid = LaidBank::<B>::lay_out(rt.alloc(), sizes, 0).map_err(no_layout)?;
     let start = Instant::now(rt)?;
     let steps = turns(&mut laid, sessions, count)?;
     let spent = start.elapsed(rt)?.as_nanos();
@@ -60,9 +69,9 @@ fn run(rt: &HostRuntime, count: usize) -> anyhow::Result<()> {
 }
 
 fn main(rt: HostRuntime) -> anyhow::Result<()> {
-    let count = match env::args(&rt)?.nth(1) {
-        Some(word) => word.as_str().parse()?,
-        None => 1000,
-    };
+    let mut count = 1000;
+    for word in env::args(&rt)?.skip(1) {
+        count = word.as_str().parse()?;
+    }
     run(&rt, count)
 }
