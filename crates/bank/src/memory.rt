@@ -88,9 +88,9 @@ impl<R: Copy> LockMemory<R> {
         ensures { IfOk result (λ m. lent m ≡ blank lengths «record») }
     {
         let words = vec![in alloc; 0; lengths.words]?;
-        let nodes = vec![in alloc; Node::default(); lengths.nodes]?;
         let mut records = Vec::new(alloc);
         records.resize(lengths.records, record)?;
+        let nodes = vec![in alloc; Node::default(); lengths.nodes]?;
         Ok(LockMemory {
             words,
             records,
